@@ -9,3 +9,4 @@ pub mod Same
 pub mod Grown
 pub mod Decided
 pub mod Binders
+pub mod Marks

@@ -10,7 +10,7 @@ use Rattle.game.specs.declared.player.Player.{Player}
 use Rattle.evidence.specs.Checking.{Decides}
 use Rattle.evidence.specs.Evidence.{Entry, Evidence, IsEvidence, IsGood, entry_at, has}
 use Rattle.evidence.specs.declared.limits.TheConstants.{GREATEST_COUNT}
-use Rattle.evidence.specs.Laws.{CanonSpells, IsSmall}
+use Rattle.evidence.specs.Laws.{EvidenceTextSpells, IsSmall}
 use Rattle.certify.specs.Full.{IsFull}
 use Rattle.certify.specs.Pair.{AreFull, AreOf}
 use Rattle.certify.specs.declared.pair.EvidencePair.{EvidencePair}
@@ -33,7 +33,7 @@ small_all e n few h = λ v x at. elim (cases_lt v n) [
 ]
 
 -- Good evidence of all that its player wins, with no count above the limit of the texts, is full.
-full_of : (player : Player) (g : Game) (e : Evidence) → CanonSpells → IsGame g → IsEvidence g e → IsGood g e → IsSmall e → e.player ≡ player
+full_of : (player : Player) (g : Game) (e : Evidence) → EvidenceTextSpells → IsGame g → IsEvidence g e → IsGood g e → IsSmall e → e.player ≡ player
     → ((v : ℕ) → v < length g.vertices → IsTrue (has e v) ↔ WinsBy e.player g v) → IsFull player g e
 full_of player g e spells is evidence good small same exact = record {
   player = same;
@@ -43,7 +43,7 @@ full_of player g e spells is evidence good small same exact = record {
 }
 
 -- So are both pieces, where they decide who wins.
-pub pair_full : (g : Game) (pair : EvidencePair) → CanonSpells → IsGame g → AreOf g pair → IsEvidence pair.even.game pair.even.evidence
+pub pair_full : (g : Game) (pair : EvidencePair) → EvidenceTextSpells → IsGame g → AreOf g pair → IsEvidence pair.even.game pair.even.evidence
     → IsEvidence pair.odd.game pair.odd.evidence → IsGood g pair.even.evidence → IsGood g pair.odd.evidence
     → Decides g pair.even.evidence pair.odd.evidence → IsSmall pair.even.evidence → IsSmall pair.odd.evidence → AreFull g pair
 pair_full g pair spells is are even odd even_good odd_good decides even_small odd_small = record {

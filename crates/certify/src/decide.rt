@@ -12,7 +12,7 @@ use crate::guessed::pair_of;
 use crate::pair::EvidencePair;
 use crate::small::is_small;
 use evidence::evidence::Evidence;
-use evidence::law::canon_spells;
+use evidence::law::evidence_text_spells;
 use evidence::verdict::Both;
 use evidence::verify::check_both;
 use game::graph::Game;
@@ -65,7 +65,7 @@ fn checked_pair(game: &Game, pair: EvidencePair) -> Option<EvidencePair>
     requires { AreOf game.now pair }
     ensures { IfSome result (AreFull game.now) }
 {
-    canon_spells();
+    evidence_text_spells();
     game.known();
     pair.even.known();
     pair.odd.known();

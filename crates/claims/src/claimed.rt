@@ -4,11 +4,11 @@ ghost use Rattle.std.specs.Prelude.{◌≡◌, ◌≤◌, length};
 ghost use Rattle.game.specs.Game.{dual};
 ghost use Rattle.progress.specs.Measure.{components};
 
+use forms::form::Normal;
 use game::graph::Game;
 use guess::scale::{TOP, ZERO};
-use guess::whole::{Component, Position, Steps, Whole};
+use guess::whole::{Component, Position, StepCounts, Whole};
 use measures::guess::Guess;
-use normal::form::Normal;
 use progress::bounds::width;
 use progress::claim::Claim;
 use progress::measure::{COMPONENTS, Measure};
@@ -73,13 +73,13 @@ impl<'a> Claims<'a> {
     }
 
     // The component of a claim, and which values are claimed.
-    fn part(&self, claim: u32) -> Option<(Component, Steps)> {
+    fn part(&self, claim: u32) -> Option<(Component, StepCounts)> {
         let is_dual = self.whole.is_dual();
         let number = if is_dual { claim / 2 } else { claim };
         let steps = if is_dual && claim % 2 == 0 {
-            Steps::LeftOut
+            StepCounts::LeftOut
         } else {
-            Steps::Counted
+            StepCounts::Counted
         };
         match self.whole.parts().get(number as usize) {
             Some(part) => Some((*part, steps)),
@@ -88,13 +88,20 @@ impl<'a> Claims<'a> {
     }
 
     // Claims the value at a position.
-    fn claim_at(&self, game: &Game, claim: &mut Claim, at: Position, steps: Steps, rank: &mut [u32])
+    fn claim_at(
+        &self,
+        game: &Game,
+        claim: &mut Claim,
+        at: Position,
+        steps: StepCounts,
+        rank: &mut [u32],
+    )
         requires same { claim.old.game ≡ game.now }
         requires rank { length rank.old ≡ length (components (dual claim.old.game)) }
         ensures { claim.new.game ≡ game.now }
     {
         let word = self.whole.claimed(at, steps);
-        let v = self.whole.vertex(at.number, at.state);
+        let v = self.whole.vertex_of(at.number, at.state);
         if word == ZERO || v >= game.vertices() {
             return;
         }
@@ -113,7 +120,7 @@ impl<'a> Claims<'a> {
         game: &Game,
         claim: &mut Claim,
         part: Component,
-        steps: Steps,
+        steps: StepCounts,
         state: u32,
         rank: &mut [u32],
     )

@@ -7,7 +7,7 @@ ghost use Rattle.progress.specs.Measure.{components};
 use crate::claimed::{Claims, MOST_RANKS};
 use game::graph::Game;
 use guess::scale::{TOP, ZERO};
-use guess::whole::{Position, Steps};
+use guess::whole::{Position, StepCounts};
 use progress::measure::COMPONENTS;
 use progress::proposal::Proposal;
 
@@ -29,8 +29,8 @@ impl Claims<'_> {
         requires rank { length rank.old ≡ length (components (dual game.now)) }
         ensures { proposal.new.game ≡ game.now }
     {
-        let word = self.whole.value(at.number, at.state, Steps::Counted);
-        let v = self.whole.vertex(at.number, at.state);
+        let word = self.whole.value(at.number, at.state, StepCounts::Counted);
+        let v = self.whole.vertex_of(at.number, at.state);
         if word == ZERO || v >= game.vertices() {
             return word == ZERO;
         }

@@ -8,7 +8,7 @@ use crate::version::VERSION;
 use clap::Error as ClapError;
 use clap::error::ErrorKind;
 use command_table::parser::parser;
-use invocation::codes::entry_of;
+use invocation::codes::code_entry;
 use requests::error::{ArgumentError, MuError};
 use std::alloc::{AllocError, Global};
 
@@ -65,7 +65,7 @@ pub fn version_text(alloc: Global) -> Result<String, MuError>
 pub fn explanation(alloc: Global, code: &str) -> Result<String, MuError>
     ensures { IfErr result IsLineError }
 {
-    match entry_of(code) {
+    match code_entry(code) {
         Some(entry) => {
             let (code, place, wrong, remedy) = (entry.code, entry.place, entry.wrong, entry.remedy);
             text(format!(in alloc; "{code}{place}: {wrong}\nWhat to do: {remedy}\n"))

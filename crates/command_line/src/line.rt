@@ -52,10 +52,10 @@ use command_table::parser::{
     PRIORITIES, QUIET, SCHEDULE, SHARDS, STATES, STATS, STRICT, SUMMARY, SYSTEM, WITNESS_FILE,
     WORKERS, parser,
 };
+use forms::priorities::Priorities;
 use invocation::inputs::read_once;
 use invocation::names::keep_files;
 use invocation::request::{Command, Outputs};
-use normal::priorities::Priorities;
 use requests::error::{ArgumentError, MuError};
 use requests::request::{
     BoardKind, Check, Normalize, Options, Replay, ReportForm, Solve, Table, Verify, Why,

@@ -14,7 +14,7 @@ use Rattle.evidence.specs.Canon.{evidence_text}
 use Rattle.evidence.specs.Evidence.{IsGood, has}
 use Rattle.evidence.specs.Laws.{WrittenIsAccepted}
 use Rattle.evidence.specs.View.{NamedEvidence}
-use Rattle.normal.specs.declared.limits.TheConstants.{GREATEST_PRIORITY}
+use Rattle.forms.specs.declared.limits.TheConstants.{GREATEST_PRIORITY}
 use Rattle.game.specs.Game.{Game, IsGame, greatest}
 use Rattle.game.specs.Wins.{OddWins, Wins}
 use Rattle.game.specs.declared.player.Player.TheVariants.{Even, Odd}

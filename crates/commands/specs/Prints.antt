@@ -4,12 +4,12 @@ use Rattle.text.specs.Taken.{Taken, Adds, Stays}
 use Rattle.text.specs.Wrote.{WroteFront}
 use Rattle.calculus.specs.Tree.{Formula}
 use Rattle.formula.specs.Checked.{IsTold}
-use Rattle.normal.specs.declared.limits.TheConstants.{MOST_NODES, GREATEST_PRIORITY}
-use Rattle.normal.specs.declared.priorities.Priorities.{Priorities}
+use Rattle.forms.specs.declared.limits.TheConstants.{MOST_NODES, GREATEST_PRIORITY}
+use Rattle.forms.specs.declared.priorities.Priorities.{Priorities}
 use Rattle.normal.specs.declared.error.NormalError.{NormalError}
-use Rattle.normal.specs.Tree.{node_count, depth, normal_form}
-use Rattle.normal.specs.Nodes.{greatest_priority}
-use Rattle.normal.specs.Rules.{nodes_with}
+use Rattle.forms.specs.Tree.{node_count, depth, normal_form}
+use Rattle.forms.specs.Nodes.{greatest_node_priority}
+use Rattle.forms.specs.Rules.{nodes_with}
 use Rattle.normal.specs.NormalText.{normal_text}
 use Rattle.normal.specs.Refused.{HasRefusalWith}
 use Rattle.requests.specs.Texts.{IsFormulaOf}
@@ -20,7 +20,7 @@ use Rattle.requests.specs.declared.error.MuError.TheVariants as error
 pub record HasPrintedForm (priorities : Priorities) (text : List ℕ) (f : Formula) : Type 0 where
   pub formula : IsFormulaOf text f
   pub nodes : node_count f ≤ MOST_NODES
-  pub low : greatest_priority (nodes_with priorities f) ≤ GREATEST_PRIORITY
+  pub low : greatest_node_priority (nodes_with priorities f) ≤ GREATEST_PRIORITY
 
 -- the text of that normal form
 abbrev pub form_text : Priorities → Formula → List ℕ

@@ -4,10 +4,10 @@ use Rattle.text.specs.Taken.{Taken, Adds, Stays}
 use Rattle.text.specs.Wrote.{WroteFront}
 use Rattle.systems.specs.System.{System}
 use Rattle.calculus.specs.Tree.{Formula}
-use Rattle.normal.specs.declared.priorities.Priorities.TheVariants.{Nested}
+use Rattle.forms.specs.declared.priorities.Priorities.TheVariants.{Nested}
 use Rattle.game.specs.Game.{Game}
 use Rattle.progress.specs.Tables.{IsSettled}
-use Rattle.liftcore.specs.Core.{Core, start}
+use Rattle.liftcore.specs.Core.{Core, starting_core}
 use Rattle.liftcore.specs.Replay.{replay_text}
 use Rattle.liftcore.specs.Runs.{Comes}
 use Rattle.liftcore.specs.declared.event.Event.{Event}
@@ -30,7 +30,7 @@ way = ByGame Nested None
 -- The game is replayed with so many workers: the events come from its start to this state, and so many of them were done and so many skipped. Of the
 -- state's table it is known whether it is settled.
 pub record IsReplay (g : Game) (workers : ℕ) (events : List Event) (done skipped : ℕ) (c : Core) (settled : Bool) : Type 0 where
-  pub comes : Comes (start g workers) events done skipped c
+  pub comes : Comes (starting_core g workers) events done skipped c
   pub exact : IsTrue settled ↔ IsSettled c.table
 
 -- The texts spell one system and one formula, which have a game, and one schedule for it; and this is what its events come to.

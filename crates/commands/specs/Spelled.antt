@@ -26,11 +26,11 @@ pub record IsEvidenceOf (g : Game) (text : List ℕ) (e : Evidence) : Type 0 whe
 
 -- the fault that is told, if one is, decides the text of a game
 abbrev pub IsGameTold : List ℕ → PgError → Type 0
-IsGameTold text error = IfSome (game_left.named error) (game.HasFaultAt text)
+IsGameTold text error = IfSome (game_left.pg_fault_of error) (game.HasPgFaultAt text)
 
 -- the same of a text of evidence for a game
 abbrev pub IsEvidenceTold : Game → List ℕ → EvidenceError → Type 0
-IsEvidenceTold g text error = IfSome (evidence.named error) (evidence.HasFaultAt g text)
+IsEvidenceTold g text error = IfSome (evidence.evidence_fault_of error) (evidence.HasEvidenceFaultAt g text)
 
 -- the text spells this schedule alone, for so many workers and vertices
 pub record IsScheduleOf (workers vertices : ℕ) (text : List ℕ) (events : List Event) : Type 0 where
@@ -39,4 +39,4 @@ pub record IsScheduleOf (workers vertices : ℕ) (text : List ℕ) (events : Lis
 
 -- the same of a text of a schedule
 abbrev pub IsScheduleTold : (workers vertices : ℕ) → List ℕ → ScheduleError → Type 0
-IsScheduleTold workers vertices text error = IfSome (schedule.named error) (schedule.HasFaultAt workers vertices text)
+IsScheduleTold workers vertices text error = IfSome (schedule.schedule_fault_of error) (schedule.HasScheduleFaultAt workers vertices text)

@@ -8,9 +8,9 @@ ghost use Rattle.requests.specs.Texts.{IsFormulaOf};
 ghost use Rattle.commands.specs.Prints.{AnswersPrint, Prints};
 
 use calculus::closed::Closed;
+use forms::priorities::Priorities;
 use normal::make::normal_with;
 use normal::printer::print_normal;
-use normal::priorities::Priorities;
 use requests::error::MuError;
 use requests::request::Normalize;
 use requests::texts::read_formula;

@@ -4,21 +4,21 @@ ghost use Rattle.std.specs.Prelude.{◌≡◌, ◌||◌, ℕ, IfErr, List, false
 ghost use Rattle.systems.specs.System.{System};
 ghost use Rattle.calculus.specs.Tree.{Formula};
 ghost use Rattle.calculus.specs.Closed.{closed_formula};
-ghost use Rattle.normal.specs.declared.priorities.Priorities.TheVariants.{Nested};
-ghost use Rattle.liftcore.specs.Core.{start};
+ghost use Rattle.forms.specs.declared.priorities.Priorities.TheVariants.{Nested};
+ghost use Rattle.liftcore.specs.Core.{starting_core};
 ghost use Rattle.requests.specs.Causes.{HaveCauses};
 ghost use Rattle.requests.specs.Check.{AreSpelled, HasGame};
 ghost use Rattle.requests.specs.Check.{IsArenaOf};
 ghost use Rattle.commands.specs.Replays.{AnswersReplay, GivesNoSchedule, Replays, nested_game};
 ghost use Rattle.commands.specs.Spelled.{IsScheduleOf};
 
+use forms::priorities::Priorities;
 use game::graph::Game;
 use liftcore::error::{CoreError, ReadError, ScheduleError};
 use liftcore::event::Event;
 use liftcore::machine::Core;
 use liftcore::schedule::read_schedule_from;
 use liftcore::writer::write_replay;
-use normal::priorities::Priorities;
 use requests::arena::arena_of;
 use requests::error::MuError;
 use requests::request::Replay;
@@ -178,7 +178,7 @@ fn follow_and_write<W: Sink>(
     out: &mut W,
 ) -> Result<bool, MuError>
     ensures answers { (first second third : List ℕ) (l : System) (f : Formula) (workers : ℕ) → AreSpelled first second l f → HasGame Nested l f
-        → core.old ≡ start (nested_game l f) workers
+        → core.old ≡ starting_core (nested_game l f) workers
         → IsScheduleOf workers (length (nested_game l f).vertices) third events.now
         → AnswersReplay workers first second third (W.taken out.old) (W.taken out.new) result }
     ensures cause { IfErr result (HaveCauses false false) }

@@ -2,7 +2,7 @@
 // done where that is asked for.
 
 use crate::notes::note_all;
-use crate::stats::{Running, Stats, Step, name_of, told_texts};
+use crate::stats::{Activity, Running, Stats, name_of, told_texts};
 use calculus::closed::Closed;
 use gauge::{Gauge, Reading};
 use hints::strange::{Word, strange_words};
@@ -45,7 +45,7 @@ struct Screen {
 #[derive(Drop)]
 struct Place {
     /// What the run does.
-    step: Mutex<Step>,
+    step: Mutex<Activity>,
     /// How far that has come.
     gauge: Gauge,
     screen: Mutex<Screen>,
@@ -55,7 +55,7 @@ struct Place {
 impl Place {
     fn new() -> Place {
         Place {
-            step: Mutex::new(Step::Seen(Stage::ReadingSystem)),
+            step: Mutex::new(Activity::Seen(Stage::ReadingSystem)),
             gauge: Gauge::new(),
             screen: Mutex::new(Screen {
                 is_drawn: false,
@@ -65,13 +65,13 @@ impl Place {
         }
     }
 
-    fn sees<T: Wait>(&self, handle: &T, step: Step) {
+    fn sees<T: Wait>(&self, handle: &T, step: Activity) {
         *self.step.lock(handle) = step;
         self.gauge.clear();
     }
 
     // What the line says of a step after so many seconds.
-    fn text(&self, alloc: Global, step: Step, seconds: u64) -> Result<String, AllocError> {
+    fn text(&self, alloc: Global, step: Activity, seconds: u64) -> Result<String, AllocError> {
         let name = name_of(alloc, step)?;
         match self.progress(alloc, step)? {
             Some(progress) => format!(in alloc; "mucheck: {name}, {progress}, {seconds} s\n"),
@@ -80,8 +80,8 @@ impl Place {
     }
 
     // How far a step has come, where that is known.
-    fn progress(&self, alloc: Global, step: Step) -> Result<Option<String>, AllocError> {
-        if let Step::Seen(Stage::Counting { priority, .. }) = step {
+    fn progress(&self, alloc: Global, step: Activity) -> Result<Option<String>, AllocError> {
+        if let Activity::Seen(Stage::Counting { priority, .. }) = step {
             return Ok(Some(format!(in alloc; "down to priority {priority}")?));
         }
         match self.gauge.reading() {
@@ -92,17 +92,17 @@ impl Place {
 }
 
 // What a gauge shows in a step, in the step's words.
-fn shown(alloc: Global, step: Step, reading: Reading) -> Result<Option<String>, AllocError> {
+fn shown(alloc: Global, step: Activity, reading: Reading) -> Result<Option<String>, AllocError> {
     let Reading { done, whole } = reading;
     match step {
-        Step::ReadingGame | Step::Seen(Stage::ReadingSystem | Stage::ReadingFormula) => {
+        Activity::ReadingGame | Activity::Seen(Stage::ReadingSystem | Stage::ReadingFormula) => {
             let (read, size) = (done / MEGABYTE, whole / MEGABYTE);
             Ok(Some(format!(in alloc; "{read} of {size} MB")?))
         }
-        Step::Seen(Stage::Building { .. }) => {
+        Activity::Seen(Stage::Building { .. }) => {
             Ok(Some(format!(in alloc; "{done} of {whole} vertices")?))
         }
-        Step::Seen(Stage::Searching { .. }) => {
+        Activity::Seen(Stage::Searching { .. }) => {
             let spent = done.saturating_mul(HUNDREDTHS).checked_div(whole);
             let spent = spent.unwrap_or(0);
             Ok(Some(format!(in alloc; "{spent} % of the budget spent")?))
@@ -135,7 +135,7 @@ fn tick<T: Wait + Clock>(rt: HostRuntime, handle: &T, place: &Place) {
 }
 
 // Writes the line in place of the one that stands, if one does. Whether one stands afterwards.
-fn draw(rt: HostRuntime, place: &Place, step: Step, is_drawn: bool, seconds: u64) -> bool {
+fn draw(rt: HostRuntime, place: &Place, step: Activity, is_drawn: bool, seconds: u64) -> bool {
     let Ok(text) = place.text(rt.alloc(), step, seconds) else {
         return is_drawn;
     };
@@ -264,7 +264,7 @@ impl<T: Threads + Wait + Clock> ProgressLine<'_, T> {
 
 impl<T: Wait + Clock> ProgressLine<'_, T> {
     /// The step begins, or goes on; what went on before has ended.
-    pub fn step(&self, step: Step) {
+    pub fn step(&self, step: Activity) {
         if let Some(place) = &self.place {
             place.sees(self.handle, step);
         }
@@ -273,7 +273,7 @@ impl<T: Wait + Clock> ProgressLine<'_, T> {
         }
     }
 
-    fn begin(&self, step: Step) {
+    fn begin(&self, step: Activity) {
         let mut running = self.running.lock(self.handle);
         *running = match *running {
             Some(now) if now.goes_on(step) => Some(now.at(step)),
@@ -303,7 +303,7 @@ impl<T: Wait + Clock> ProgressLine<'_, T> {
 
 impl<T: Wait + Clock> Observer for ProgressLine<'_, T> {
     fn sees(&self, stage: Stage) {
-        self.step(Step::Seen(stage));
+        self.step(Activity::Seen(stage));
     }
 
     fn gauge(&self) -> Option<&Gauge> {

@@ -1,7 +1,7 @@
 // What is told of a refusal on standard error.
 
 use crate::sight::{Location, Sight, sight_at};
-use invocation::codes::entry_of;
+use invocation::codes::code_entry;
 use invocation::request::Command;
 use requests::error::MuError;
 use std::io;
@@ -212,7 +212,7 @@ fn tell_sight(rt: &HostRuntime, code: &str, name: &str, sight: &Sight) -> io::Re
 }
 
 fn tell_remedy(rt: &HostRuntime, code: &str) -> io::Result<()> {
-    match entry_of(code) {
+    match code_entry(code) {
         Some(entry) => {
             let remedy = entry.remedy;
             eprintln!(rt; "mucheck: {remedy}")

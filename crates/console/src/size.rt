@@ -2,10 +2,10 @@
 
 ghost use Rattle.std.specs.Prelude.{◌<◌};
 
-use game::build::label_sets;
+use forms::form::Normal;
+use forms::labels::label_sets;
+use forms::node::Kind;
 use lts::system::Lts;
-use normal::form::Normal;
-use normal::node::Kind;
 use std::alloc::{AllocError, Global};
 
 /// Both sinks, each of which leads to itself.

@@ -2,11 +2,11 @@
 
 use crate::size::Size;
 use calculus::closed::Closed;
+use forms::form::Normal;
+use forms::priorities::Priorities;
 use lts::system::Lts;
 use measures::observer::Stage;
-use normal::form::Normal;
 use normal::make::normal_with;
-use normal::priorities::Priorities;
 use std::alloc::{AllocError, Global};
 use std::fs;
 use std::time::{Clock, Duration, Instant};
@@ -32,19 +32,19 @@ impl Stats {
 
 /// What the program does at a time.
 #[derive(Clone, Copy)]
-pub enum Step {
+pub enum Activity {
     ReadingGame,
     Seen(Stage),
 }
 
-impl Step {
+impl Activity {
     /// Whether the other one is the same, or goes on with it.
-    fn goes_on(self, other: Step) -> bool {
+    fn goes_on(self, other: Activity) -> bool {
         match (self, other) {
-            (Step::Seen(Stage::Lifting { .. }), Step::Seen(Stage::Lifting { .. }))
+            (Activity::Seen(Stage::Lifting { .. }), Activity::Seen(Stage::Lifting { .. }))
             | (
-                Step::Seen(Stage::Searching { .. } | Stage::Counting { .. }),
-                Step::Seen(Stage::Searching { .. } | Stage::Counting { .. }),
+                Activity::Seen(Stage::Searching { .. } | Stage::Counting { .. }),
+                Activity::Seen(Stage::Searching { .. } | Stage::Counting { .. }),
             ) => true,
             _ => false,
         }
@@ -54,13 +54,13 @@ impl Step {
 /// A step that goes on, and since when.
 #[derive(Clone, Copy)]
 pub struct Running {
-    step: Step,
+    step: Activity,
     since: Instant,
 }
 
 impl Running {
     /// A step that begins now; none where there is no clock.
-    pub fn new<T: Clock>(handle: &T, step: Step) -> Option<Running> {
+    pub fn new<T: Clock>(handle: &T, step: Activity) -> Option<Running> {
         match Instant::now(handle) {
             Ok(since) => Some(Running { step, since }),
             Err(_) => None,
@@ -68,12 +68,12 @@ impl Running {
     }
 
     /// Whether the step goes on with this one.
-    pub fn goes_on(self, step: Step) -> bool {
+    pub fn goes_on(self, step: Activity) -> bool {
         self.step.goes_on(step)
     }
 
     /// The same since then, which has come to this step.
-    pub fn at(self, step: Step) -> Running {
+    pub fn at(self, step: Activity) -> Running {
         Running {
             step,
             since: self.since,
@@ -121,7 +121,7 @@ fn greatest_priority(normal: &Normal) -> u32 {
 }
 
 /// The line of a step that took so long.
-fn told_step(rt: HostRuntime, step: Step, elapsed: Duration) -> Result<String, AllocError> {
+fn told_step(rt: HostRuntime, step: Activity, elapsed: Duration) -> Result<String, AllocError> {
     let alloc = rt.alloc();
     let name = name_of(alloc, step)?;
     let (seconds, thousandths) = (elapsed.as_secs(), elapsed.subsec_millis());
@@ -137,10 +137,10 @@ fn told_step(rt: HostRuntime, step: Step, elapsed: Duration) -> Result<String, A
 }
 
 /// What a step does, and of how much.
-pub(crate) fn name_of(alloc: Global, step: Step) -> Result<String, AllocError> {
+pub(crate) fn name_of(alloc: Global, step: Activity) -> Result<String, AllocError> {
     match step {
-        Step::ReadingGame => String::from_str(alloc, "reading the game"),
-        Step::Seen(stage) => name_of_stage(alloc, stage),
+        Activity::ReadingGame => String::from_str(alloc, "reading the game"),
+        Activity::Seen(stage) => name_of_stage(alloc, stage),
     }
 }
 

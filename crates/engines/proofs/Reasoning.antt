@@ -7,9 +7,9 @@ use Rattle.text.specs.Wrote.{Wrote}
 use Rattle.text.specs.declared.write_loop.WriteFault.{WriteFault}
 use Rattle.systems.specs.Numbered.{Numbered, system_with}
 use Rattle.systems.specs.declared.system.Transition.{Transition}
-use Rattle.normal.specs.declared.priorities.Priorities.{Priorities}
-use Rattle.normal.specs.Nodes.{Node}
-use Rattle.normal.specs.Rules.{nodes_with}
+use Rattle.forms.specs.declared.priorities.Priorities.{Priorities}
+use Rattle.forms.specs.Nodes.{Node}
+use Rattle.forms.specs.Rules.{nodes_with}
 use Rattle.normal.proofs.Numbers.{is_form}
 use Rattle.witness.specs.Walk.{is_marked}
 use Rattle.why.specs.Remarks.{remarks}

@@ -7,9 +7,9 @@ use Rattle.calculus.specs.Admitted.{IsAdmitted}
 use Rattle.calculus.specs.Closed.{closed_formula}
 use Rattle.calculus.specs.Meaning.{MarksOf}
 use Rattle.calculus.specs.Tree.{Formula}
-use Rattle.normal.specs.Nodes.{Node}
-use Rattle.normal.specs.Rules.{nodes_with}
-use Rattle.normal.specs.Tree.{normal_form}
+use Rattle.forms.specs.Nodes.{Node}
+use Rattle.forms.specs.Rules.{nodes_with}
+use Rattle.forms.specs.Tree.{normal_form}
 use Rattle.game.specs.Game.{Game, IsGame}
 use Rattle.game.specs.Arena.{place_in}
 use Rattle.game.specs.Wins.{OddWins, Wins}

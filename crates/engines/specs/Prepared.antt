@@ -5,7 +5,7 @@ use Rattle.std.specs.Option.{is_some}
 use Rattle.systems.specs.Numbered.{IsInside, system_with}
 use Rattle.systems.specs.declared.system.Transition.{Transition}
 use Rattle.normal.specs.Refused.{HasRefusalWith}
-use Rattle.normal.specs.Rules.{nodes_with}
+use Rattle.forms.specs.Rules.{nodes_with}
 use Rattle.evidence.specs.Best.{IsEvenOf, IsOddOf}
 use Rattle.evidence.specs.Evidence.{IsGood, has}
 use Rattle.evidence.specs.View.{NamedEvidence}

@@ -6,9 +6,9 @@ use Rattle.systems.specs.System.{System}
 use Rattle.systems.specs.Numbered.{system_with}
 use Rattle.calculus.specs.Tree.{Formula}
 use Rattle.calculus.specs.Meaning.{Satisfies}
-use Rattle.normal.specs.declared.priorities.Priorities.{Priorities}
-use Rattle.normal.specs.Normal.{normal_nodes}
-use Rattle.normal.specs.Rules.{nodes_with}
+use Rattle.forms.specs.declared.priorities.Priorities.{Priorities}
+use Rattle.forms.specs.Normal.{normal_nodes}
+use Rattle.forms.specs.Rules.{nodes_with}
 use Rattle.witness.specs.Walk.{is_marked}
 use Rattle.witness.specs.Witness.{IsShownBy}
 use Rattle.why.specs.Remarks.{Remarks, remarks}

@@ -21,7 +21,7 @@ use normal::make::normal_with;
 use requests::error::MuError;
 use requests::request::{ReportForm, Wanted, WitnessForm};
 use std::alloc::Global;
-use verdicts::findings::{Findings, odd_of};
+use verdicts::findings::{Findings, odd_evidence_found};
 use verdicts::pairs::evidence_pair;
 use witness::part::{Play, witness};
 
@@ -240,7 +240,7 @@ fn winner_evidence(alloc: Global, found: &Findings) -> Result<Evidence, Evidence
     if initial_mark(found) {
         even_evidence(alloc, game, &found.solution.settled)
     } else {
-        odd_of(alloc, found)
+        odd_evidence_found(alloc, found)
     }
 }
 

@@ -12,7 +12,7 @@ use Rattle.game.specs.declared.player.Player.{Player}
 use Rattle.game.specs.declared.player.Player.TheVariants.{Even, Odd}
 use Rattle.evidence.specs.Canon.{header}
 use Rattle.evidence.specs.Evidence.{Entry, Evidence, counted}
-use Rattle.evidence.specs.Fault.{HasFault, IsFaultyRest, IsMisplaced, LineFault}
+use Rattle.evidence.specs.Fault.{HasEvidenceFault, IsFaultyRest, IsMisplaced, EvidenceLineFault}
 use Rattle.evidence.specs.Spelling.{AreGoodRows, AreLines, AreEntriesOf, IsEvidenceText, IsRowInside, IsShaped, EntryRow}
 use Rattle.evidence.specs.declared.error.EvidenceFault.{EvidenceFault}
 use Rattle.evidence.specs.declared.error.EvidenceFault.TheVariants.{BadHeader, BadLine, BadVertex}
@@ -105,7 +105,7 @@ apart front x y back once (k, h, is) e =
     once k (length front) y h (omega arith) (ap (λ (r : EntryRow). r.vertex) at ∙ (e ∙ sym (ap (λ (r : EntryRow). r.vertex) (seam front x back y))))
 
 no_line : (n w : ℕ) (front : List (List ℕ)) (line : List ℕ) (back : List (List ℕ)) (rows before : List EntryRow) (fault : EvidenceFault)
-    → AreGoodRows n w (front ++ line ∷ back) rows → AreGoodRows n w front before → LineFault n w before line fault → ⊥
+    → AreGoodRows n w (front ++ line ∷ back) rows → AreGoodRows n w front before → EvidenceLineFault n w before line fault → ⊥
 no_line n w front line back rows before BadHeader all some wrong = wrong
 no_line n w front line back rows before BadLine all some wrong = let s = split_of w front line back rows all.each in wrong s.row s.shaped
 no_line n w front line back rows before BadVertex all some (y, shaped, place) = misplaced place
@@ -154,7 +154,7 @@ not_before n w rest f h i j p q less =
     let (mid, is) = longer p.front q.front p.back q.back p.line q.line (sym p.cut ∙ q.cut) (omega (arith, p.count, q.count, less)) in
     no_line n w p.front p.line mid q.before p.before f (subst (λ l. AreGoodRows n w l q.before) is q.fine) p.fine p.wrong
 
-one_line : (n w : ℕ) (before : List EntryRow) (line : List ℕ) (f h : EvidenceFault) → LineFault n w before line f → LineFault n w before line h → f ≡ h
+one_line : (n w : ℕ) (before : List EntryRow) (line : List ℕ) (f h : EvidenceFault) → EvidenceLineFault n w before line f → EvidenceLineFault n w before line h → f ≡ h
 one_line n w before line BadHeader h p q = absurd p
 one_line n w before line BadLine BadHeader p q = absurd q
 one_line n w before line BadLine BadLine p q = refl
@@ -171,8 +171,8 @@ one_rest n w rest f h i j p q =
     ] in
     let same = level p.front q.front p.back q.back p.line q.line (sym p.cut ∙ q.cut) (p.count ∙ at ∙ sym q.count) in
     let before = rows_same w p.front p.before q.before p.fine.each (subst (λ l. AllZip (IsShaped w) l q.before) (sym same.0) q.fine.each) in
-    let wrong : LineFault n w p.before p.line h = subst (λ rows. LineFault n w rows p.line h) (sym before)
-    (subst (λ line. LineFault n w q.before line h) (sym same.1) q.wrong) in
+    let wrong : EvidenceLineFault n w p.before p.line h = subst (λ rows. EvidenceLineFault n w rows p.line h) (sym before)
+    (subst (λ line. EvidenceLineFault n w q.before line h) (sym same.1) q.wrong) in
     (one_line n w p.before p.line f h p.wrong wrong, at)
 
 -- a fault below a header
@@ -189,7 +189,7 @@ one_below g text f h i j (p, rest, good, cut, faulty, at) (q, rest', good', cut'
     let (fault, goods) = one_rest (length g.vertices) (length (counted p g)) rest f h good good' faulty other in
     (fault, at ∙ (ap (λ k. k + 2) goods ∙ sym at'))
 
-pub one_fault : (g : Game) (text : List ℕ) (f h : EvidenceFault) (i j : ℕ) → HasFault g text f i → HasFault g text h j → (f ≡ h) × (i ≡ j)
+pub one_fault : (g : Game) (text : List ℕ) (f h : EvidenceFault) (i j : ℕ) → HasEvidenceFault g text f i → HasEvidenceFault g text h j → (f ≡ h) × (i ≡ j)
 one_fault g text BadHeader BadHeader i j a b = (refl, a.1 ∙ sym b.1)
 one_fault g text BadHeader BadLine i j a b = absurd (a.0 b.0 b.1 b.3)
 one_fault g text BadHeader BadVertex i j a b = absurd (a.0 b.0 b.1 b.3)
@@ -210,7 +210,7 @@ no_below g text e fault place a (p, rest, good, cut, faulty, at) =
     (λ l. AreGoodRows n (length (counted p g)) l a.lines.rows) (sym same.1 ∙ faulty.cut) lines in
     no_line n (length (counted p g)) faulty.front faulty.line faulty.back a.lines.rows faulty.before fault all faulty.fine faulty.wrong
 
-pub no_fault : (g : Game) (text : List ℕ) (e : Evidence) (fault : EvidenceFault) (place : ℕ) → IsEvidenceText g text e → HasFault g text fault place → ⊥
+pub no_fault : (g : Game) (text : List ℕ) (e : Evidence) (fault : EvidenceFault) (place : ℕ) → IsEvidenceText g text e → HasEvidenceFault g text fault place → ⊥
 no_fault g text e BadHeader place a b = b.0 e.player a.rest a.cut
 no_fault g text e BadLine place a b = no_below g text e BadLine place a b
 no_fault g text e BadVertex place a b = no_below g text e BadVertex place a b

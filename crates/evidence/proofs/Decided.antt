@@ -13,7 +13,7 @@ use Rattle.game.specs.declared.player.Player.{Player}
 use Rattle.game.specs.declared.player.Player.TheVariants.{Even, Odd}
 use Rattle.evidence.specs.Canon.{header}
 use Rattle.evidence.specs.Evidence.{Entry, Evidence, counted}
-use Rattle.evidence.specs.Fault.{HasFault, IsFaultyRest, LineFault}
+use Rattle.evidence.specs.Fault.{HasEvidenceFault, IsFaultyRest, EvidenceLineFault}
 use Rattle.evidence.specs.Spelling.{AreGoodRows, AreLines, AreEntriesOf, IsEvidenceText, IsRowInside, IsShaped, EntryRow}
 use Rattle.evidence.specs.declared.error.EvidenceFault.{EvidenceFault}
 use Rattle.evidence.specs.declared.error.EvidenceFault.TheVariants.{BadHeader, BadLine, BadVertex}
@@ -31,8 +31,8 @@ module _ (n width : ℕ) where
   -- a line behind them
   data Judged (rows : List EntryRow) (entries : List (Option Entry)) (line : List ℕ) : Type 0 where
     fine : (row : EntryRow) → IsShaped width line row → IsRowInside n row → slice_index_or entries row.vertex None ≡ None → Judged rows entries line
-    no_line : LineFault n width rows line BadLine → Judged rows entries line
-    no_place : LineFault n width rows line BadVertex → Judged rows entries line
+    no_line : EvidenceLineFault n width rows line BadLine → Judged rows entries line
+    no_place : EvidenceLineFault n width rows line BadVertex → Judged rows entries line
 
   -- all lines say entries, or one of them is faulty
   data Rest (rest : List (List ℕ)) : Type 0 where
@@ -123,7 +123,7 @@ module _ (n width : ℕ) where
 -- ---- the whole text
 
 abbrev Decided : Game → List ℕ → Type 0
-Decided g text = ((e : Evidence) × IsEvidenceText g text e) ⊎ ((fault : EvidenceFault) × (line : ℕ) × HasFault g text fault line)
+Decided g text = ((e : Evidence) × IsEvidenceText g text e) ⊎ ((fault : EvidenceFault) × (line : ℕ) × HasEvidenceFault g text fault line)
 
 by_rest : (g : Game) (text : List ℕ) (player : Player) (rest : List (List ℕ)) → pieces_of text ≡ header player ∷ rest
     → Rest (length g.vertices) (length (counted player g)) rest → Decided g text

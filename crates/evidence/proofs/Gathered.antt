@@ -12,8 +12,8 @@ use Rattle.progress.proofs.Lists.{count_no, count_yes}
 use Rattle.text.specs.Lines.{IfKnown, TakesPiece}
 use Rattle.text.specs.Text.{pieces_of}
 use Rattle.evidence.specs.Evidence.{Entry}
-use Rattle.evidence.specs.Fault.{IsMisplaced, LineFault}
-use Rattle.evidence.specs.Reading.{AreEntriesRead, HasRestFault, IsAdded, IsCutOff, IsNoPlace, IsWrongLine, EntriesSoFar}
+use Rattle.evidence.specs.Fault.{IsMisplaced, EvidenceLineFault}
+use Rattle.evidence.specs.Reading.{AreEntriesRead, HasEvidenceRestFault, IsAdded, IsCutOff, IsNoPlace, IsWrongLine, EntriesSoFar}
 use Rattle.evidence.specs.Spelling.{AreEntriesOf, IsRowInside, IsShaped, EntryRow}
 use Rattle.evidence.specs.View.{Entries}
 use Rattle.evidence.specs.declared.error.EvidenceFault.{EvidenceFault}
@@ -173,7 +173,7 @@ all_read vertices width good old mid new line entries so taken = record {
 
 wrong_line : (vertices width good : ℕ) (old now : Option (List ℕ)) (entries : Entries) (line : List ℕ) (fault : EvidenceFault)
     → (so : EntriesSoFar vertices width good old now entries) → IsWrongLine entries line fault
-    → LineFault vertices width so.rows line fault
+    → EvidenceLineFault vertices width so.rows line fault
 wrong_line vertices width good old now entries line BadHeader so wrong = wrong
 wrong_line vertices width good old now entries line BadLine so wrong = λ x h. wrong x (subst (λ w. IsShaped w line x) (sym so.wide) h)
 wrong_line vertices width good old now entries line BadVertex so (x, shaped, place) = (x, subst (λ w. IsShaped w line x) so.wide shaped, misplaced place)
@@ -186,7 +186,7 @@ wrong_line vertices width good old now entries line BadVertex so (x, shaped, pla
 -- the line is faulty
 pub bad_line : (vertices width good p : ℕ) → p ≡ good → (old mid new : Option (List ℕ)) (line : List ℕ) (entries : Entries) (fault : EvidenceFault)
     → EntriesSoFar vertices width good old mid entries → TakesPiece mid new true line
-    → IsWrongLine entries line fault → IfSome old (λ text. HasRestFault vertices width text fault (p + 2))
+    → IsWrongLine entries line fault → IfSome old (λ text. HasEvidenceRestFault vertices width text fault (p + 2))
 bad_line vertices width good p at None mid new line entries fault so taken wrong = tt
 bad_line vertices width good p at (Some text) None new line entries fault so taken wrong = absurd so.cut
 bad_line vertices width good p at (Some text) (Some left) None line entries fault so taken wrong = absurd taken

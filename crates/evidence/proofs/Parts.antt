@@ -9,8 +9,8 @@ use Rattle.std.proofs.lemmas.Option.{slice_get_within}
 use Rattle.systems.specs.System.{Arrow, System}
 use Rattle.calculus.specs.Tree.{Action}
 use Rattle.calculus.specs.Holds.{holds}
-use Rattle.normal.specs.Tree.{Shape, ConstantNode, JunctionNode, ModalityNode, FixpointNode, VariableNode}
-use Rattle.normal.specs.Nodes.{Node}
+use Rattle.forms.specs.Tree.{Shape, ConstantNode, JunctionNode, ModalityNode, FixpointNode, VariableNode}
+use Rattle.forms.specs.Nodes.{Node}
 use Rattle.game.specs.declared.player.Player.TheVariants.{Even}
 use Rattle.game.specs.Arena.{arena, is_step, or_else, place, rows, successors_of, targets, vertex_of}
 use Rattle.game.specs.Game.{Game, Vertex, greatest, greatest_of, vertex}

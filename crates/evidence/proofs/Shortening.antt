@@ -11,7 +11,7 @@ use Rattle.std.proofs.lemmas.List.{take-append-drop, take_all, take_more}
 use Rattle.std.proofs.lemmas.List.Folds.{list_all-append}
 use Rattle.text.specs.Lines.{IfKnown}
 use Rattle.text.specs.Tokens.{is_other}
-use Rattle.text.specs.Stream.{first_piece, below}
+use Rattle.text.specs.Stream.{first_piece, after_line}
 use Rattle.text.proofs.Scanning.{run_passes}
 use Rattle.text.proofs.Streaming.{known_then}
 use Rattle.evidence.specs.declared.limits.TheConstants.{LONGEST_LINE}
@@ -86,12 +86,12 @@ kept_more d run i old now new after next below so digits puts =
 -- the line ends in the block
 ends_in : (block rest : List ℕ) → prefix_len (is_other 10) block < length block
     → (first_piece (block ++ rest) ≡ take (prefix_len (is_other 10) block) block)
-    × (below (block ++ rest) ≡ drop (prefix_len (is_other 10) block + 1) (block ++ rest))
+    × (after_line (block ++ rest) ≡ drop (prefix_len (is_other 10) block + 1) (block ++ rest))
 ends_in [] rest h = absurd (omega (arith, h))
 ends_in (b ∷ block) rest h =
     elim (b == 10) as (λ c. cond (not c) (1 + prefix_len (is_other 10) block) 0 < length (b ∷ block)
     → (cond c [] (b ∷ first_piece (block ++ rest)) ≡ take (cond (not c) (1 + prefix_len (is_other 10) block) 0) (b ∷ block))
-    × (cond c (block ++ rest) (below (block ++ rest)) ≡ drop (cond (not c) (1 + prefix_len (is_other 10) block) 0 + 1) (b ∷ (block ++ rest)))) [
+    × (cond c (block ++ rest) (after_line (block ++ rest)) ≡ drop (cond (not c) (1 + prefix_len (is_other 10) block) 0 + 1) (b ∷ (block ++ rest)))) [
       | true ↦ λ k. (refl, refl)
       | false ↦ λ k.
           let one : 1 + prefix_len (is_other 10) block ≡ suc (prefix_len (is_other 10) block) = omega arith in
@@ -128,7 +128,7 @@ ran d count taken after before now block ended (Some text) (Some left) new limit
           let first : first_piece text ≡ take count block = ap first_piece whole ∙ piece ∙ ap (λ n. take n block) (sym is) in
           rw yes (
             puts_as (short_from d (first_piece text)) (short_from d (take count block)) before now (ap (short_from d) first) kept,
-            ap (drop taken) whole ∙ ap (λ n. drop n (block ++ drop (length block) text)) one ∙ sym under ∙ ap below (sym whole),
+            ap (drop taken) whole ∙ ap (λ n. drop n (block ++ drop (length block) text)) one ∙ sym under ∙ ap after_line (sym whole),
           )
       | inr more ↦
           let no : nat_lt count (length block) ≡ false = le-ltb count (length block) more in
@@ -141,7 +141,7 @@ ran d count taken after before now block ended (Some text) (Some left) new limit
                 rw yes (
                   puts_as (short_from d (first_piece text)) (short_from d (take count block)) before now
                       (ap (λ t. short_from d (first_piece t)) none ∙ ap (λ n. short_from d (take n block)) (sym zero_count)) kept,
-                  drop_nothing taken text none ∙ ap below (sym none),
+                  drop_nothing taken text none ∙ ap after_line (sym none),
                 )
             | false ↦ λ e.
                 let go : ended ≡ false = test ∙ ap (λ b. b || nat_eq (length block) 0) no ∙ e in
@@ -164,13 +164,13 @@ ran d count taken after before now block ended (Some text) (Some left) new limit
 
 -- ---- the line
 
-piece_run : (run text : List ℕ) → list_all (is_other 10) run ≡ true → (first_piece (run ++ text) ≡ run ++ first_piece text) × (below (run ++ text) ≡ below text)
+piece_run : (run text : List ℕ) → list_all (is_other 10) run ≡ true → (first_piece (run ++ text) ≡ run ++ first_piece text) × (after_line (run ++ text) ≡ after_line text)
 piece_run [] text all = (refl, refl)
 piece_run (b ∷ run) text all =
     let h = and_parts (is_other 10 b) (list_all (is_other 10) run) all in
     let (piece, under) = piece_run run text h.1 in
     elim (b == 10) as (λ c. not c ≡ true → (cond c [] (b ∷ first_piece (run ++ text)) ≡ b ∷ run ++ first_piece text)
-    × (cond c (run ++ text) (below (run ++ text)) ≡ below text)) [
+    × (cond c (run ++ text) (after_line (run ++ text)) ≡ after_line text)) [
       | true ↦ λ e. absurd cc
       | false ↦ λ e. (ap (λ l. b ∷ l) piece, under)
     ] h.0
@@ -218,5 +218,5 @@ takes_all kept now digits old mid new so on =
     ∙ ap (λ n. short_from 0 s.run ++ short_from n (first_piece left)) (sym s.so.digits) in (
       puts_both (short_from 0 s.run) (short_from digits (first_piece left)) [] kept now s.so.kept keeps [] (sym (take_all LONGEST_LINE [] (omega arith)))
           ∙ ap (take LONGEST_LINE) (sym both),
-      after ∙ sym under ∙ ap below (sym s.cut),
+      after ∙ sym under ∙ ap after_line (sym s.cut),
     ))

@@ -12,7 +12,7 @@ use Rattle.text.specs.Text.{pieces_of, with_first, lines}
 use Rattle.text.specs.Lines.{IfKnown, TakesPiece}
 use Rattle.text.specs.Tokens.{cut_at}
 use Rattle.text.specs.Stream as stream
-use Rattle.text.specs.Stream.{first_piece, below, HasLine}
+use Rattle.text.specs.Stream.{first_piece, after_line, HasLine}
 use Rattle.text.proofs.Streaming.{known_only, lines_cons}
 use Rattle.text.proofs.Scanning.{cut_gives}
 use Rattle.game.specs.declared.player.Player.{Player}
@@ -20,23 +20,23 @@ use Rattle.evidence.specs.declared.error.EvidenceFault.{EvidenceFault}
 use Rattle.evidence.specs.declared.error.EvidenceFault.TheVariants.{BadHeader}
 use Rattle.evidence.specs.declared.limits.TheConstants.{LONGEST_LINE}
 use Rattle.evidence.specs.Canon.{header}
-use Rattle.evidence.specs.Reading.{AddsNext, BeginsWith, HasNoHeader, HasRestFault, IsAdded, IsWrongLine, ReadsNext, RefusesNext, EntriesSoFar, TakesFirst}
+use Rattle.evidence.specs.Reading.{AddsNext, BeginsWith, HasNoHeader, HasEvidenceRestFault, IsAdded, IsWrongLine, ReadsNext, RefusesNext, EntriesSoFar, TakesFirst}
 use Rattle.evidence.specs.Scan.{IsNoHeader}
 use Rattle.evidence.specs.Short.{TakesShort, short}
 use Rattle.evidence.specs.View.{Entries}
 use Rattle.evidence.proofs.Gathered.{bad_line, line_more}
 use Rattle.evidence.proofs.Lifted.{a_header, no_header}
 
-pub pieces_cons : (b : ℕ) (text : List ℕ) → pieces_of (b ∷ text) ≡ first_piece (b ∷ text) ∷ pieces_of (below (b ∷ text))
+pub pieces_cons : (b : ℕ) (text : List ℕ) → pieces_of (b ∷ text) ≡ first_piece (b ∷ text) ∷ pieces_of (after_line (b ∷ text))
 pieces_cons b [] = elim (b == 10) as (λ c. cond c ([] ∷ []) ((b ∷ []) ∷ []) ≡ cond c [] (b ∷ []) ∷ pieces_of (cond c [] [])) [ true ↦ refl | false ↦ refl ]
 pieces_cons b (d ∷ text) =
     elim (b == 10) as (λ c. cond c ([] ∷ pieces_of (d ∷ text)) (with_first b (pieces_of (d ∷ text)))
-    ≡ cond c [] (b ∷ first_piece (d ∷ text)) ∷ pieces_of (cond c (d ∷ text) (below (d ∷ text)))) [
+    ≡ cond c [] (b ∷ first_piece (d ∷ text)) ∷ pieces_of (cond c (d ∷ text) (after_line (d ∷ text)))) [
       | true ↦ refl
       | false ↦ ap (with_first b) (pieces_cons d text)
     ]
 
-pieces_some : (text : List ℕ) → text ≢ [] → pieces_of text ≡ first_piece text ∷ pieces_of (below text)
+pieces_some : (text : List ℕ) → text ≢ [] → pieces_of text ≡ first_piece text ∷ pieces_of (after_line text)
 pieces_some [] some = absurd (some refl)
 pieces_some (b ∷ text) some = pieces_cons b text
 
@@ -51,8 +51,8 @@ next_taken None mid new line has taken = tt
 next_taken (Some text) None new line has taken = absurd has
 next_taken (Some text) (Some left) None line has taken = absurd taken
 next_taken (Some text) (Some left) (Some rest) line (same, more) (first, after) =
-    pieces_some text (some_line text (λ none. let wrong : stream.line_of text ∷ lines (below text) ≡ [] = sym more ∙ none in cc))
-    ∙ (λ i. (ap first_piece (sym same) ∙ first) i ∷ pieces_of (below text)) ∙ ap (λ t. line ∷ pieces_of t) (sym (after ∙ ap below same))
+    pieces_some text (some_line text (λ none. let wrong : stream.line_of text ∷ lines (after_line text) ≡ [] = sym more ∙ none in cc))
+    ∙ (λ i. (ap first_piece (sym same) ∙ first) i ∷ pieces_of (after_line text)) ∙ ap (λ t. line ∷ pieces_of t) (sym (after ∙ ap after_line same))
 
 -- no line is left
 pub none_taken : (old new : Option (List ℕ)) (line : List ℕ) → HasLine old new false → TakesPiece old new false line
@@ -60,7 +60,7 @@ none_taken None new line has = tt
 none_taken (Some text) None line has = absurd has
 none_taken (Some []) (Some left) line has = refl
 none_taken (Some (b ∷ text)) (Some left) line (same, none) =
-    absurd (let wrong : stream.line_of (b ∷ text) ∷ lines (below (b ∷ text)) ≡ [] = sym (lines_cons b text) ∙ none in cc)
+    absurd (let wrong : stream.line_of (b ∷ text) ∷ lines (after_line (b ∷ text)) ≡ [] = sym (lines_cons b text) ∙ none in cc)
 
 -- one more line
 pub next_more : (vertices width good : ℕ) (old a mid new : Option (List ℕ)) (before after : Entries) → EntriesSoFar vertices width good old a before
@@ -71,7 +71,7 @@ next_more vertices width good old a mid new before after so has (line, one, take
 -- the line is faulty
 pub next_bad : (vertices width good p : ℕ) → p ≡ good → (old a mid new : Option (List ℕ)) (before : Entries) (fault : EvidenceFault)
     → EntriesSoFar vertices width good old a before → HasLine a mid true → RefusesNext mid new before fault
-    → IfSome old (λ text. HasRestFault vertices width text fault (p + 2))
+    → IfSome old (λ text. HasEvidenceRestFault vertices width text fault (p + 2))
 next_bad vertices width good p at None a mid new before fault so has wrong = tt
 next_bad vertices width good p at (Some text) None mid new before fault so has wrong = absurd so.cut
 next_bad vertices width good p at (Some text) (Some left) None new before fault so has wrong = absurd has
@@ -92,7 +92,7 @@ short_adds kept (Some text) (Some left) before after (is, rest) one whole = (fir
 pub short_bad : (kept : List ℕ) (old new : Option (List ℕ)) (before : Entries) (fault : EvidenceFault) → IfKnown old new (TakesShort kept)
     → ((whole : List ℕ) → kept ≡ take LONGEST_LINE (short whole) → IsWrongLine before whole fault) → RefusesNext old new before fault
 short_bad kept old new before fault taken whole = known_only {P = TakesShort kept}
-    {Q = λ text left. IsWrongLine before (first_piece text) fault × (left ≡ below text)} old new taken (λ text left t. (whole (first_piece text) t.0, t.1))
+    {Q = λ text left. IsWrongLine before (first_piece text) fault × (left ≡ after_line text)} old new taken (λ text left t. (whole (first_piece text) t.0, t.1))
 
 -- ---- a line at hand
 
@@ -100,7 +100,7 @@ pub here_read : {T : Type 0} (line : List ℕ) (old new : Option (List ℕ)) (be
     → IfKnown old new (TakesFirst line) → OnOk r (IsAdded line before after) → IfErr r (IsWrongLine before line) → ReadsNext old new before after r
 here_read line old new before after (Ok x) taken added wrong = (line, added, taken)
 here_read line old new before after (Err fault) taken added wrong =
-    known_only {P = TakesFirst line} {Q = λ text left. IsWrongLine before (first_piece text) fault × (left ≡ below text)} old new taken
+    known_only {P = TakesFirst line} {Q = λ text left. IsWrongLine before (first_piece text) fault × (left ≡ after_line text)} old new taken
     (λ text left t. (subst (λ l. IsWrongLine before l fault) (sym t.0) wrong, t.1))
 
 pub short_read : {T : Type 0} (kept : List ℕ) (old new : Option (List ℕ)) (before after : Entries) (r : Result T EvidenceFault)
@@ -117,7 +117,7 @@ no_line None new has = tt
 no_line (Some text) None has = absurd has
 no_line (Some []) (Some left) has = (refl, λ player rest e. absurd cc, refl)
 no_line (Some (b ∷ text)) (Some left) (same, none) =
-    absurd (let wrong : stream.line_of (b ∷ text) ∷ lines (below (b ∷ text)) ≡ [] = sym (lines_cons b text) ∙ none in cc)
+    absurd (let wrong : stream.line_of (b ∷ text) ∷ lines (after_line (b ∷ text)) ≡ [] = sym (lines_cons b text) ∙ none in cc)
 
 first_same : (x y : List ℕ) (xs ys : List (List ℕ)) → x ∷ xs ≡ y ∷ ys → x ≡ y
 first_same x y xs ys e = cc

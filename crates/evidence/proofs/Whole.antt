@@ -9,7 +9,7 @@ use Rattle.game.specs.Game.{Game}
 use Rattle.game.specs.declared.player.Player.{Player}
 use Rattle.evidence.specs.Canon.{header}
 use Rattle.evidence.specs.Evidence.{Entry, IsEvidence, counted}
-use Rattle.evidence.specs.Fault.{HasFault, HasFaultAt, Refuses, named}
+use Rattle.evidence.specs.Fault.{HasEvidenceFault, HasEvidenceFaultAt, RefusesEvidence, evidence_fault_of}
 use Rattle.evidence.specs.Reading.{AreEntriesRead, BeginsWith, HasNoHeader}
 use Rattle.evidence.specs.Spelling.{IsEvidenceText, IsRowInside, IsShaped, EntryRow}
 use Rattle.evidence.specs.View.{NamedEvidence}
@@ -59,12 +59,12 @@ spelled g player entries (Some text) (Some left) begins read = record {
   lines = read.lines;
 }
 
-headless : (g : Game) (text : List ℕ) (fault : EvidenceFault) (place : ℕ) → HasNoHeader text fault place → HasFault g text fault place
+headless : (g : Game) (text : List ℕ) (fault : EvidenceFault) (place : ℕ) → HasNoHeader text fault place → HasEvidenceFault g text fault place
 headless g text BadHeader place h = (h.1, h.2)
 headless g text BadLine place h = absurd (let e = h.0 in cc)
 headless g text BadVertex place h = absurd (let e = h.0 in cc)
 
-laws : (g : Game) → AreLaws (IsEvidenceText g) (IsEvidenceText g) (IsEvidenceText g) (HasFaultAt g)
+laws : (g : Game) → AreLaws (IsEvidenceText g) (IsEvidenceText g) (IsEvidenceText g) (HasEvidenceFaultAt g)
 laws g = record {
   one_value = λ text e f a b. one_evidence g text f e b a;
   no_fault = λ text e f a h. no_fault g text e f.0 f.1 a h;
@@ -74,7 +74,7 @@ laws g = record {
 
 -- all that the reader promises
 pub promised : (g : Game) (old : Option (List ℕ)) (r : Result NamedEvidence EvidenceError) → IfOk r (λ e. IfSome old (λ text. IsEvidenceText g text e.evidence))
-    → IfErr r (Refuses old (HasFault g))
-    → Reads (IsEvidenceText g) (IsEvidenceText g) (IsEvidenceText g) (HasFaultAt g) (λ (e : NamedEvidence). e.evidence) named old r
-promised g old r spells fault = keeps (IsEvidenceText g) (IsEvidenceText g) (IsEvidenceText g) (HasFaultAt g) (λ (e : NamedEvidence). e.evidence) named
+    → IfErr r (RefusesEvidence old (HasEvidenceFault g))
+    → Reads (IsEvidenceText g) (IsEvidenceText g) (IsEvidenceText g) (HasEvidenceFaultAt g) (λ (e : NamedEvidence). e.evidence) evidence_fault_of old r
+promised g old r spells fault = keeps (IsEvidenceText g) (IsEvidenceText g) (IsEvidenceText g) (HasEvidenceFaultAt g) (λ (e : NamedEvidence). e.evidence) evidence_fault_of
     (laws g) old r spells fault

@@ -5,9 +5,9 @@ use Rattle.systems.specs.System.{Arrow, System, IsSystem}
 use Rattle.calculus.specs.Tree.{Formula}
 use Rattle.calculus.specs.Admitted.{IsAdmitted}
 use Rattle.calculus.specs.Meaning.{Satisfies}
-use Rattle.normal.specs.Tree.{normal_form}
-use Rattle.normal.specs.Nodes.{Node}
-use Rattle.normal.specs.declared.limits.TheConstants.{GREATEST_PRIORITY}
+use Rattle.forms.specs.Tree.{normal_form}
+use Rattle.forms.specs.Nodes.{Node}
+use Rattle.forms.specs.declared.limits.TheConstants.{GREATEST_PRIORITY}
 use Rattle.game.specs.Arena.{arena, place}
 use Rattle.game.specs.declared.player.Player.TheVariants.{Even, Odd}
 use Rattle.game.specs.Game.{Game, IsGame, dual, greatest}
@@ -21,11 +21,11 @@ use Rattle.evidence.specs.Best.{IsEvenOf, IsOddOf}
 use Rattle.evidence.specs.Verdict.{IsBoth, IsVerdict}
 use Rattle.evidence.specs.declared.verdict.Verdict.{Verdict}
 use Rattle.evidence.specs.declared.verdict.Both.{Both}
-use Rattle.evidence.specs.Fault.{HasFault}
+use Rattle.evidence.specs.Fault.{HasEvidenceFault}
 use Rattle.evidence.specs.Spelling.{IsEvidenceText}
 use Rattle.evidence.specs.declared.error.EvidenceFault.{EvidenceFault}
 use Rattle.evidence.specs.declared.limits.TheConstants.{GREATEST_COUNT}
-use Rattle.evidence.specs.Witness.{HasAllArrows, IsClosedFor, IsPartOf, AreReached, Keeps, cut_to, part_of, witness}
+use Rattle.evidence.specs.Witness.{HasAllArrows, IsClosedFor, IsPartOf, AreReached, Keeps, cut_to, filtered_system, witness}
 use Rattle.evidence.specs.declared.verdict.Both.TheVariants.{Yes}
 
 -- Where no fault stands anywhere, the player wins each vertex of the set.
@@ -100,7 +100,7 @@ ArrowsKeepSteps = (l part : System) (nodes : List Node) (e : Evidence) (set : �
 
 -- What passes a test is a system, and a part.
 abbrev pub PartsAreSystems : Type 0
-PartsAreSystems = (l : System) (p : Arrow → Bool) → IsSystem l → IsSystem (part_of p l) × IsPartOf l (part_of p l)
+PartsAreSystems = (l : System) (p : Arrow → Bool) → IsSystem l → IsSystem (filtered_system p l) × IsPartOf l (filtered_system p l)
 
 -- Good evidence, cut to a closed set, is good in the arena of a part that keeps the steps in the set; so the player wins there.
 abbrev pub WitnessWins : Type 0
@@ -134,19 +134,19 @@ abbrev pub OneEvidence : Type 0
 OneEvidence = (g : Game) (text : List ℕ) (e f : Evidence) → IsEvidenceText g text e → IsEvidenceText g text f → e ≡ f
 
 -- A text that spells evidence has no deciding fault, and each text has one at most, at one line.
-abbrev pub NoFault : Type 0
-NoFault = (g : Game) (text : List ℕ) (e : Evidence) (fault : EvidenceFault) (line : ℕ) → IsEvidenceText g text e → HasFault g text fault line → ⊥
+abbrev pub NoEvidenceFault : Type 0
+NoEvidenceFault = (g : Game) (text : List ℕ) (e : Evidence) (fault : EvidenceFault) (line : ℕ) → IsEvidenceText g text e → HasEvidenceFault g text fault line → ⊥
 
-abbrev pub OneFault : Type 0
-OneFault = (g : Game) (text : List ℕ) (a b : EvidenceFault) (i j : ℕ) → HasFault g text a i → HasFault g text b j → (a ≡ b) × (i ≡ j)
+abbrev pub OneEvidenceFault : Type 0
+OneEvidenceFault = (g : Game) (text : List ℕ) (a b : EvidenceFault) (i j : ℕ) → HasEvidenceFault g text a i → HasEvidenceFault g text b j → (a ≡ b) × (i ≡ j)
 
 -- No count of a rank is above the limit of the texts.
 abbrev pub IsSmall : Evidence → Type 0
 IsSmall e = (v : ℕ) (x : Entry) → entry_at e v ≡ Some x → AllByRecursion (λ k. k ≤ GREATEST_COUNT) x.rank
 
 -- The canonical text of evidence spells the evidence.
-abbrev pub CanonSpells : Type 0
-CanonSpells = (g : Game) (e : Evidence) → length g.vertices ≤ MOST_VERTICES → IsEvidence g e → IsSmall e → IsEvidenceText g (evidence_text e) e
+abbrev pub EvidenceTextSpells : Type 0
+EvidenceTextSpells = (g : Game) (e : Evidence) → length g.vertices ≤ MOST_VERTICES → IsEvidence g e → IsSmall e → IsEvidenceText g (evidence_text e) e
 
 -- What is written of the least tables of a game with at least one vertex is read again, as what it is, and accepted.
 abbrev pub WrittenIsAccepted : Type 0
@@ -155,5 +155,5 @@ WrittenIsAccepted =
     → IsEvidenceText g (evidence_text e) e × IsEvidenceText g (evidence_text f) f × IsBoth g e f Yes
 
 -- A text spells evidence for a game, or a fault decides.
-abbrev pub Decided : Type 0
-Decided = (g : Game) (text : List ℕ) → ((e : Evidence) × IsEvidenceText g text e) ⊎ ((fault : EvidenceFault) × (line : ℕ) × HasFault g text fault line)
+abbrev pub EvidenceTextIsDecided : Type 0
+EvidenceTextIsDecided = (g : Game) (text : List ℕ) → ((e : Evidence) × IsEvidenceText g text e) ⊎ ((fault : EvidenceFault) × (line : ℕ) × HasEvidenceFault g text fault line)

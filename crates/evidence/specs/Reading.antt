@@ -2,7 +2,7 @@
 use Rattle.std.specs.Prelude.{◌≡◌, ℕ, ◌+◌, ◌<◌, ◌≤◌, ◌⊎◌, List, ◌∷◌, ◌++◌, length, count_by, Result, MatchResult, MatchOption, Option, Some, None, slice_index_or, slice_set, IfSome}
 use Rattle.std.specs.Option.{is_some}
 use Rattle.text.specs.Lines.{IfKnown}
-use Rattle.text.specs.Stream.{first_piece, below}
+use Rattle.text.specs.Stream.{first_piece, after_line}
 use Rattle.text.specs.Text.{pieces_of}
 use Rattle.game.specs.declared.player.Player.{Player}
 use Rattle.evidence.specs.Canon.{header}
@@ -48,7 +48,7 @@ IsWrongLine old line BadHeader = ⊥
 
 -- this is the first line, and it is taken with its end
 abbrev pub TakesFirst : List ℕ → List ℕ → List ℕ → Type 0
-TakesFirst line text left = (first_piece text ≡ line) × (left ≡ below text)
+TakesFirst line text left = (first_piece text ≡ line) × (left ≡ after_line text)
 
 -- the line that was next is taken, and gave its vertex an entry
 abbrev pub AddsNext : Option (List ℕ) → Option (List ℕ) → Entries → Entries → Type 0
@@ -56,7 +56,7 @@ AddsNext old new before after = (line : List ℕ) × IsAdded line before after �
 
 -- the line that was next has this fault
 abbrev pub RefusesNext : Option (List ℕ) → Option (List ℕ) → Entries → EvidenceFault → Type 0
-RefusesNext old new before fault = IfKnown old new (λ text left. IsWrongLine before (first_piece text) fault × (left ≡ below text))
+RefusesNext old new before fault = IfKnown old new (λ text left. IsWrongLine before (first_piece text) fault × (left ≡ after_line text))
 
 -- it was read
 abbrev pub ReadsNext : {T : Type 0} → Option (List ℕ) → Option (List ℕ) → Entries → Entries → Result T EvidenceFault → Type 0
@@ -84,8 +84,8 @@ pub record EntriesSoFar (vertices width good : ℕ) (old now : Option (List ℕ)
   pub cut : IfKnown old now (IsCutOff done)
 
 -- the fault of the lines below a header, and its line in the whole text
-abbrev pub HasRestFault : (vertices width : ℕ) → List ℕ → EvidenceFault → ℕ → Type 0
-HasRestFault vertices width text fault place = (good : ℕ) × IsFaultyRest vertices width (pieces_of text) fault good × (place ≡ good + 2)
+abbrev pub HasEvidenceRestFault : (vertices width : ℕ) → List ℕ → EvidenceFault → ℕ → Type 0
+HasEvidenceRestFault vertices width text fault place = (good : ℕ) × IsFaultyRest vertices width (pieces_of text) fault good × (place ≡ good + 2)
 
 -- These lines say the entries, and they are the ones that were left, where that is known.
 pub record AreEntriesRead (vertices width : ℕ) (old : Option (List ℕ)) (entries : List (Option Entry)) : Type 0 where

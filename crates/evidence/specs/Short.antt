@@ -3,7 +3,7 @@ use Rattle.std.specs.Prelude.{◌≡◌, ℕ, ◌+◌, List, [], ◌∷◌, ◌+
 use Rattle.std.specs.List.{list_all}
 use Rattle.text.specs.Tokens.{is_other}
 use Rattle.text.specs.Text.{is_digit}
-use Rattle.text.specs.Stream.{first_piece, below}
+use Rattle.text.specs.Stream.{first_piece, after_line}
 use Rattle.evidence.specs.declared.limits.TheConstants.{MOST_DIGITS, LONGEST_LINE}
 
 -- how many digits stand on end behind this byte, where so many stood before it: no more than that are counted
@@ -37,8 +37,8 @@ KeepsShort d bytes old new = Puts (short_from d bytes) old new
 abbrev pub TakesOn : ℕ → List ℕ → List ℕ → Option ℕ → List ℕ → List ℕ → Type 0
 TakesOn d old new (Some after) text left =
     (run : List ℕ) × (text ≡ run ++ left) × IsTrue (list_all (is_other 10) run) × (after ≡ digits_after d run) × KeepsShort d run old new
-TakesOn d old new None text left = KeepsShort d (first_piece text) old new × (left ≡ below text)
+TakesOn d old new None text left = KeepsShort d (first_piece text) old new × (left ≡ after_line text)
 
 -- the line is taken with its end, and kept shortened
 abbrev pub TakesShort : List ℕ → List ℕ → List ℕ → Type 0
-TakesShort kept text left = (kept ≡ take LONGEST_LINE (short (first_piece text))) × (left ≡ below text)
+TakesShort kept text left = (kept ≡ take LONGEST_LINE (short (first_piece text))) × (left ≡ after_line text)

@@ -4,6 +4,6 @@ use Rattle.text.specs.declared.error.ReadFault.TheVariants as reads
 use Rattle.evidence.specs.declared.error.EvidenceError.{EvidenceError}
 use Rattle.evidence.specs.declared.error.EvidenceError.TheVariants as errors
 
-abbrev pub unread : ReadFault → EvidenceError
-unread reads.Read = errors.Read
-unread reads.Memory = errors.Memory
+abbrev pub evidence_unread : ReadFault → EvidenceError
+evidence_unread reads.Read = errors.Read
+evidence_unread reads.Memory = errors.Memory

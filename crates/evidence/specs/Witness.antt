@@ -5,8 +5,8 @@ use Rattle.std.specs.List.{list_any, range_with_len}
 use Rattle.systems.specs.System.{Arrow, System}
 use Rattle.systems.specs.Path.{IsPath}
 use Rattle.calculus.specs.Holds.{holds}
-use Rattle.normal.specs.Tree.{Shape, ModalityNode}
-use Rattle.normal.specs.Nodes.{Node}
+use Rattle.forms.specs.Tree.{Shape, ModalityNode}
+use Rattle.forms.specs.Nodes.{Node}
 use Rattle.game.specs.declared.player.Player.{Player}
 use Rattle.game.specs.declared.player.Player.TheVariants.{Even, Odd}
 use Rattle.game.specs.Arena.{arena, is_step, owner_of, place}
@@ -53,8 +53,8 @@ abbrev pub cut_to : (ℕ → Bool) → Evidence → Evidence
 cut_to set e = record { player = e.player; entries = cut_from set 0 e.entries }
 
 -- the arrows of l that pass a test, and all else as it is
-abbrev pub part_of : (Arrow → Bool) → System → System
-part_of p l = record { states = l.states; initial = l.initial; arrows = filter p l.arrows }
+abbrev pub filtered_system : (Arrow → Bool) → System → System
+filtered_system p l = record { states = l.states; initial = l.initial; arrows = filter p l.arrows }
 
 -- Where the play goes on from a modality to the vertex u, the part has each arrow of l that leads there.
 abbrev pub HasArrows : System → System → ℕ → ℕ → Shape → ℕ → Type 0
@@ -100,4 +100,4 @@ is_taken_at nodes e set arrow k (Some node) = is_taken nodes e set arrow k node.
 
 -- the part that has the arrows that the play takes in the set, and no others
 abbrev pub witness : System → List Node → Evidence → (ℕ → Bool) → System
-witness l nodes e set = part_of (λ arrow. list_any (λ k. is_taken_at (length nodes) e set arrow k (slice_get nodes k)) (range_with_len 0 (length nodes))) l
+witness l nodes e set = filtered_system (λ arrow. list_any (λ k. is_taken_at (length nodes) e set arrow k (slice_get nodes k)) (range_with_len 0 (length nodes))) l

@@ -46,9 +46,9 @@ impl From<Memory> for EvidenceError {
 
 impl From<ReadFault> for EvidenceError {
     ghost use Rattle.std.specs.Prelude.{◌≡◌};
-    ghost use Rattle.evidence.specs.Unread.{unread};
+    ghost use Rattle.evidence.specs.Unread.{evidence_unread};
 
-    ghost from_gives = { λ fault e. e ≡ unread fault };
+    ghost from_gives = { λ fault e. e ≡ evidence_unread fault };
 
     fn from(fault: ReadFault) -> Self {
         match fault {

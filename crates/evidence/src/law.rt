@@ -6,17 +6,17 @@ ghost use Rattle.evidence.specs.Laws.{
   BestExists,
   BestIsOne,
   BestIsYes,
-  CanonSpells,
-  Decided,
+  EvidenceTextSpells,
+  EvidenceTextIsDecided,
   DescentIsReaching,
   EvenEvidenceIsGood,
   GoodEvidenceWins,
-  NoFault,
+  NoEvidenceFault,
   NoneInBoth,
   OddEvidenceIsGood,
   OneAnswer,
   OneEvidence,
-  OneFault,
+  OneEvidenceFault,
   OneVerdict,
   PartsAreSystems,
   ReachedExists,
@@ -138,18 +138,18 @@ pub fn one_evidence()
 {}
 
 /// A text that spells evidence has no deciding fault.
-pub fn no_fault()
-    ensures { NoFault }
+pub fn no_evidence_fault()
+    ensures { NoEvidenceFault }
 {}
 
 /// A text has one deciding fault at most, at one line.
-pub fn one_fault()
-    ensures { OneFault }
+pub fn one_evidence_fault()
+    ensures { OneEvidenceFault }
 {}
 
 /// The canonical text of evidence spells the evidence, and by `one_evidence` no other.
-pub fn canon_spells()
-    ensures { CanonSpells }
+pub fn evidence_text_spells()
+    ensures { EvidenceTextSpells }
 {}
 
 /// What is written of the least tables of a game, Even's and Odd's, is read again as what it is, and both together are accepted.
@@ -158,6 +158,6 @@ pub fn written_is_accepted()
 {}
 
 /// A text spells evidence for a game, or a fault decides: with the laws above, one of the two and just one of its kind.
-pub fn decided()
-    ensures { Decided }
+pub fn evidence_text_is_decided()
+    ensures { EvidenceTextIsDecided }
 {}

@@ -6,8 +6,8 @@ ghost use Rattle.text.specs.Lines.{IfKnown};
 ghost use Rattle.text.specs.Reads.{Reads};
 ghost use Rattle.text.specs.declared.error.ReadFault.TheVariants as reads;
 ghost use Rattle.evidence.specs.Evidence.{counted};
-ghost use Rattle.evidence.specs.Fault.{HasFault, HasFaultAt, Refuses, named};
-ghost use Rattle.evidence.specs.Reading.{AreEntriesRead, BeginsWith, HasNoHeader, HasRestFault, IsAdded, IsNoPlace, HasPlaceFor, IsWrongLine, ReadsAtHand, ReadsNext};
+ghost use Rattle.evidence.specs.Fault.{HasEvidenceFault, HasEvidenceFaultAt, RefusesEvidence, evidence_fault_of};
+ghost use Rattle.evidence.specs.Reading.{AreEntriesRead, BeginsWith, HasNoHeader, HasEvidenceRestFault, IsAdded, IsNoPlace, HasPlaceFor, IsWrongLine, ReadsAtHand, ReadsNext};
 ghost use Rattle.evidence.specs.Short.{short};
 ghost use Rattle.evidence.specs.Spelling.{IsEvidenceText};
 ghost use Rattle.evidence.specs.declared.error.EvidenceError.TheVariants as errors;
@@ -32,7 +32,7 @@ use text::stream::has_line;
 // Reads the header.
 fn read_header<B: Blocks>(reader: &mut B, kept: &mut Vec<u8>) -> Result<Player, EvidenceError>
     ensures first { IfOk result (λ player. IfKnown (B.remaining reader.old) (B.remaining reader.new) (BeginsWith player)) }
-    ensures fault { IfErr result (Refuses (B.remaining reader.old) HasNoHeader) }
+    ensures fault { IfErr result (RefusesEvidence (B.remaining reader.old) HasNoHeader) }
     ensures cause { IfErr result (HasCause B.can_fail errors.Read) }
 {
     let fault = EvidenceFault::BadHeader;
@@ -153,7 +153,7 @@ fn read_lines<B: Blocks>(
     requires few { length entries.old.entries ≤ MOST_VERTICES }
     requires narrow { entries.old.width ≤ MOST_COUNTS }
     ensures lines { OnOk result (AreEntriesRead (length entries.old.entries) entries.old.width (B.remaining reader.old) entries.new.entries) }
-    ensures fault { IfErr result (Refuses (B.remaining reader.old) (HasRestFault (length entries.old.entries) entries.old.width)) }
+    ensures fault { IfErr result (RefusesEvidence (B.remaining reader.old) (HasEvidenceRestFault (length entries.old.entries) entries.old.width)) }
     ensures cause { IfErr result (HasCause B.can_fail errors.Read) }
 {
     let mut good = 0;
@@ -191,7 +191,7 @@ fn read_entries<B: Blocks>(
     game: &Game,
 ) -> Result<Entries, EvidenceError>
     ensures lines { IfOk result (λ e. AreEntriesRead (length game.now.vertices) (length (counted player game.now)) (B.remaining reader.old) e.entries) }
-    ensures fault { IfErr result (Refuses (B.remaining reader.old) (HasRestFault (length game.now.vertices) (length (counted player game.now)))) }
+    ensures fault { IfErr result (RefusesEvidence (B.remaining reader.old) (HasEvidenceRestFault (length game.now.vertices) (length (counted player game.now)))) }
     ensures cause { IfErr result (HasCause B.can_fail errors.Read) }
 {
     game.known();
@@ -212,7 +212,7 @@ fn read_text<B: Blocks>(
 ) -> Result<Evidence, EvidenceError>
     ensures game { IfOk result (λ e. e.game ≡ game.now) }
     ensures spelled { IfOk result (λ e. IfSome (B.remaining reader.old) (λ text. IsEvidenceText game.now text e.evidence)) }
-    ensures fault { IfErr result (Refuses (B.remaining reader.old) (HasFault game.now)) }
+    ensures fault { IfErr result (RefusesEvidence (B.remaining reader.old) (HasEvidenceFault game.now)) }
     ensures cause { IfErr result (HasCause B.can_fail errors.Read) }
 {
     let mut kept = Vec::new(alloc);
@@ -233,7 +233,7 @@ pub fn read_evidence<R: Source + Drop>(
     game: &Game,
 ) -> Result<Evidence, EvidenceError>
     ensures game { IfOk result (λ e. e.game ≡ game.now) }
-    ensures reads { Reads (IsEvidenceText game.now) (IsEvidenceText game.now) (IsEvidenceText game.now) (HasFaultAt game.now) (λ e. e.evidence) named
+    ensures reads { Reads (IsEvidenceText game.now) (IsEvidenceText game.now) (IsEvidenceText game.now) (HasEvidenceFaultAt game.now) (λ e. e.evidence) evidence_fault_of
         (R.remaining reader) result }
     ensures cause { IfErr result (HasCause R.can_fail errors.Read) }
 {

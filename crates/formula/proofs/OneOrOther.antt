@@ -11,7 +11,7 @@ use Rattle.grammar.specs.Token.{Token, Reserved, TrueWord, Segment, Word, IsPiec
 use Rattle.grammar.specs.Syntax.{Syntax, True', fits, tokens, meant, is_within_limits}
 use Rattle.formula.specs.Spells.{IsWritten, SpellsWithin}
 use Rattle.calculus.specs.Admitted.{IsAdmitted}
-use Rattle.formula.specs.Fault.{NothingBegins, BeginsWithin, IsTokens, TokenFault, GrammarFault, TreeFault, HasFault, operand_faults, variable_faults}
+use Rattle.formula.specs.Fault.{NothingBegins, BeginsWithin, IsTokens, TokenFault, GrammarFault, TreeFault, HasFormulaFault, operand_faults, variable_faults}
 use Rattle.formula.specs.Checked.{is_variable_fault}
 use Rattle.formula.specs.declared.error.FormulaFault.{FormulaFault}
 use Rattle.formula.specs.declared.error.FormulaFault.TheVariants as fault
@@ -167,7 +167,7 @@ module _ (text : List ℕ) (ps : List Segment) (s : Syntax) (w : IsWritten text 
 
 -- ---- the text
 
-pub decided : (text : List ℕ) → (((f : Formula) × SpellsWithin text f × IsAdmitted f) → ⊥) → (((f : FormulaFault) × (place : ℕ) × HasFault text f place) → ⊥)
+pub decided : (text : List ℕ) → (((f : Formula) × SpellsWithin text f × IsAdmitted f) → ⊥) → (((f : FormulaFault) × (place : ℕ) × HasFormulaFault text f place) → ⊥)
     → ⊥
 decided text unspelled faultless = elim (leb_tells (length text) LONGEST_TEXT) [
   | inl short ↦

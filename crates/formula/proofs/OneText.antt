@@ -5,7 +5,7 @@ use Rattle.calculus.specs.Tree.{Formula}
 use Rattle.grammar.specs.Token.{Segment, offsets_from}
 use Rattle.grammar.specs.Syntax.{Syntax, meant, is_within_limits}
 use Rattle.formula.specs.Spells.{IsWritten, Spells, SpellsWithin}
-use Rattle.formula.specs.Fault.{TokenFault, GrammarFault, operand_faults, variable_faults, TreeFault, HasFault}
+use Rattle.formula.specs.Fault.{TokenFault, GrammarFault, operand_faults, variable_faults, TreeFault, HasFormulaFault}
 use Rattle.formula.specs.declared.error.FormulaFault.{FormulaFault}
 use Rattle.formula.specs.declared.error.FormulaFault.TheVariants as fault
 use Rattle.calculus.specs.Admitted.{IsAdmitted}
@@ -109,7 +109,7 @@ later text f g p q (inl a) b = token_alone text f g p q a b
 later text f g p q (inr a) (inl b) = both_back f g p q (token_alone text g f q p b (inr a))
 later text f g p q (inr a) (inr b) = grammar_or_tree text f g p q a b
 
-pub one_fault : (text : List ℕ) (f g : FormulaFault) (p q : ℕ) → HasFault text f p → HasFault text g q → (f ≡ g) × (p ≡ q)
+pub one_fault : (text : List ℕ) (f g : FormulaFault) (p q : ℕ) → HasFormulaFault text f p → HasFormulaFault text g q → (f ≡ g) × (p ≡ q)
 one_fault text f g p q (inl a) (inl b) = (a.1 ∙ sym b.1, a.2 ∙ sym b.2)
 one_fault text f g p q (inl a) (inr b) = let long = a.0 in let short = b.0 in absurd (omega arith)
 one_fault text f g p q (inr a) (inl b) = let short = a.0 in let long = b.0 in absurd (omega arith)
@@ -124,7 +124,7 @@ tree_fine text f g place s h t =
     let none : [] ≡ (t.number, g) ∷ t.others = sym (faultless s.syntax f s.stands_for h) ∙ ap faults same ∙ t.first in
     cc
 
-pub no_fault : (text : List ℕ) (f : Formula) (g : FormulaFault) (place : ℕ) → SpellsWithin text f → IsAdmitted f → HasFault text g place → ⊥
+pub no_fault : (text : List ℕ) (f : Formula) (g : FormulaFault) (place : ℕ) → SpellsWithin text f → IsAdmitted f → HasFormulaFault text g place → ⊥
 no_fault text f g place s h (inl a) = let long = a.0 in let short = s.short in absurd (omega arith)
 no_fault text f g place s h (inr a) = elim a.1 [
   | inl t ↦ no_token_fault text s.pieces g place (written_tokens text s.pieces s.syntax s.written) t

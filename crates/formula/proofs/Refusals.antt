@@ -12,14 +12,14 @@ use Rattle.calculus.specs.Tree.{Formula}
 use Rattle.grammar.specs.Syntax.{Syntax, meant, tokens, nesting, parens, is_within_limits}
 use Rattle.formula.specs.Spells.{IsWritten, Spells, SpellsWithin}
 use Rattle.calculus.specs.Admitted.{IsAdmitted}
-use Rattle.formula.specs.Fault.{BeginsWithin, IsTokens, HasFaultAt, operand_faults, variable_faults}
+use Rattle.formula.specs.Fault.{BeginsWithin, IsTokens, HasFormulaFaultAt, operand_faults, variable_faults}
 use Rattle.calculus.specs.View.{formula_of}
 use Rattle.grammar.specs.Written.{bare_tokens, state_syntax}
 use Rattle.formula.specs.Cutting.{IsLexed, IsTokenRefusal}
 use Rattle.grammar.specs.Read.{IsWholeFormula, IsReadState, state_tokens, state_row}
 use Rattle.formula.specs.Refused.{IsGrammarRefusal, IsRefusal}
 use Rattle.grammar.specs.Misread.{BeginsState, StandsState, Within, SpellsTokens, IsStateMisread, IsWholeMisread}
-use Rattle.formula.specs.Checked.{IsTreeRefusal, IsTold, named, is_variable_fault}
+use Rattle.formula.specs.Checked.{IsTreeRefusal, IsTold, formula_fault_of, is_variable_fault}
 use Rattle.calculus.specs.Closed.{closed_formula}
 use Rattle.grammar.specs.declared.limits.TheConstants.{LONGEST_TEXT, DEEPEST, MOST_PARENS}
 use Rattle.calculus.specs.declared.closed.Closed.{Closed}
@@ -316,7 +316,7 @@ without_limits text f s = record { pieces = s.pieces; syntax = s.syntax; written
 abbrev IsDue : List ℕ → Formula → Type 0
 IsDue text f = SpellsWithin text f × IsAdmitted f
 
-laws : AreLaws Spells IsDue IsDue HasFaultAt
+laws : AreLaws Spells IsDue IsDue HasFormulaFaultAt
 laws = record {
   one_value = λ text f g a b. one_formula text g f b (without_limits text f a.0);
   no_fault = λ text f told a h. no_fault text f told.0 told.1 a.0 a.1 h;
@@ -326,7 +326,7 @@ laws = record {
 
 -- all that the reader promises
 pub promised : (text : List ℕ) (r : Result Closed FormulaError) → IfOk r (λ f. IsDue text (closed_formula f)) → IfErr r (IsTold text)
-    → Reads Spells SpellsWithin IsDue HasFaultAt closed_formula named (Some text) r
+    → Reads Spells SpellsWithin IsDue HasFormulaFaultAt closed_formula formula_fault_of (Some text) r
 promised text r due told =
-    let k = keeps Spells IsDue IsDue HasFaultAt closed_formula named laws (Some text) r due told in
+    let k = keeps Spells IsDue IsDue HasFormulaFaultAt closed_formula formula_fault_of laws (Some text) r due told in
     record { spelled = IfOk-weaker r _ _ (λ f d. d.0) due; only = k.only; complete = k.complete; none = k.none; exact = k.exact; fault = k.fault }

@@ -6,7 +6,7 @@ use Rattle.grammar.specs.Syntax.{Syntax, tokens, Neg'}
 use Rattle.calculus.specs.Admitted.{negated}
 use Rattle.formula.specs.Fault.{variable_faults}
 use Rattle.grammar.specs.Written.{joined, connective_token}
-use Rattle.formula.specs.Checked.{AreChecked, scope_of, left_parity, same}
+use Rattle.formula.specs.Checked.{AreChecked, scope_of, left_parity, same_truth}
 use Rattle.formula.specs.declared.error.FormulaFault.{FormulaFault}
 use Rattle.formula.specs.declared.scope.Binders.{Binders}
 use Rattle.formula.specs.declared.scope.Binders.TheVariants as binders
@@ -16,16 +16,16 @@ use Rattle.grammar.specs.declared.written.Connective.TheVariants as connective
 use Rattle.formula.proofs.Faults.{first-left}
 use Rattle.grammar.proofs.States.{joined-tokens}
 
-same-not : (a b : Bool) → not (same a b) ≡ same a (not b)
-same-not true b = refl
-same-not false true = refl
-same-not false false = refl
+same_truth-not : (a b : Bool) → not (same_truth a b) ≡ same_truth a (not b)
+same_truth-not true b = refl
+same_truth-not false true = refl
+same_truth-not false false = refl
 
 pub negated-scope : (b : Binders) (parity : Bool) → negated (scope_of b parity) ≡ scope_of b (not parity)
 negated-scope binders.Empty parity = refl
 negated-scope (binders.Binder' name under p outer) parity =
-    ap (λ x. (name.now, x) ∷ negated (scope_of outer parity)) (same-not under parity)
-    ∙ ap (λ xs. (name.now, same under (not parity)) ∷ xs) (negated-scope outer parity)
+    ap (λ x. (name.now, x) ∷ negated (scope_of outer parity)) (same_truth-not under parity)
+    ∙ ap (λ xs. (name.now, same_truth under (not parity)) ∷ xs) (negated-scope outer parity)
 
 pub joined-variables : (mark : Connective) (b : Binders) (parity : Bool) (at : ℕ) (f g : Syntax) → variable_faults (scope_of b parity) at (joined mark f g)
     ≡ variable_faults (scope_of b (left_parity mark parity)) at f ++ variable_faults (scope_of b parity) (at + (length (tokens f) + 1)) g

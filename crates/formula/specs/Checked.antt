@@ -6,7 +6,7 @@ use Rattle.formula.specs.declared.error.FormulaFault.TheVariants as fault
 use Rattle.formula.specs.declared.error.FormulaError.{FormulaError}
 use Rattle.formula.specs.declared.error.FormulaError.TheVariants as refused
 use Rattle.grammar.specs.Syntax.{Syntax}
-use Rattle.formula.specs.Fault.{HasFaultAt, operand_faults, variable_faults}
+use Rattle.formula.specs.Fault.{HasFormulaFaultAt, operand_faults, variable_faults}
 use Rattle.grammar.specs.declared.written.Connective.{Connective}
 use Rattle.grammar.specs.declared.written.Connective.TheVariants as connective
 use Rattle.formula.specs.declared.scope.Binders.{Binders}
@@ -36,15 +36,15 @@ left_parity connective.And parity = parity
 left_parity connective.Or parity = parity
 
 -- whether two flags are the same
-abbrev pub same : Bool → Bool → Bool
-same true b = b
-same false true = false
-same false false = true
+abbrev pub same_truth : Bool → Bool → Bool
+same_truth true b = b
+same_truth false true = false
+same_truth false false = true
 
 -- the scope of binders, seen from below negations of this parity
 abbrev pub scope_of : Binders → Bool → Scope
 scope_of binders.Empty parity = []
-scope_of (binders.Binder' name under p outer) parity = (name.now, same under parity) ∷ scope_of outer parity
+scope_of (binders.Binder' name under p outer) parity = (name.now, same_truth under parity) ∷ scope_of outer parity
 
 -- the refusal of the first operand that is no action formula, else of the first variable that may not stand where it does
 abbrev pub IsTreeRefusal : Syntax → List ℕ → FormulaError → Type 0
@@ -56,10 +56,10 @@ IsTreeRefusal s places (refused.Fault other offset) =
 IsTreeRefusal s places refused.Memory = ⊥
 
 -- the fault that an error tells, with its place: none for want of memory
-abbrev pub named : FormulaError → Option (FormulaFault × ℕ)
-named (refused.Fault fault offset) = Some (fault, offset)
-named refused.Memory = None
+abbrev pub formula_fault_of : FormulaError → Option (FormulaFault × ℕ)
+formula_fault_of (refused.Fault fault offset) = Some (fault, offset)
+formula_fault_of refused.Memory = None
 
 -- the fault that is told, if one is, decides
 abbrev pub IsTold : List ℕ → FormulaError → Type 0
-IsTold text e = IfSome (named e) (HasFaultAt text)
+IsTold text e = IfSome (formula_fault_of e) (HasFormulaFaultAt text)

@@ -113,11 +113,11 @@ TreeFault text fault place =
     × (operand_faults 0 s ≡ []) × (variable_faults [] 0 s ≡ (first, fault) ∷ others) × (slice_get (offsets_from 0 pieces) first ≡ Some place)
 
 -- The first of these decides: the text is too long; no token, or a reserved word; the grammar and its limits; an operand; a variable.
-abbrev pub HasFault : List ℕ → FormulaFault → ℕ → Type 0
-HasFault text fault place =
+abbrev pub HasFormulaFault : List ℕ → FormulaFault → ℕ → Type 0
+HasFormulaFault text fault place =
     ((LONGEST_TEXT < length text) × (fault ≡ TooLarge) × (place ≡ LONGEST_TEXT))
     ⊎ ((length text ≤ LONGEST_TEXT) × (TokenFault text fault place ⊎ (GrammarFault text fault place ⊎ TreeFault text fault place)))
 
 -- the same of the fault with its place
-abbrev pub HasFaultAt : List ℕ → FormulaFault × ℕ → Type 0
-HasFaultAt text told = HasFault text told.0 told.1
+abbrev pub HasFormulaFaultAt : List ℕ → FormulaFault × ℕ → Type 0
+HasFormulaFaultAt text told = HasFormulaFault text told.0 told.1

@@ -1,6 +1,6 @@
 // What holds of all texts of formulas.
 
-ghost use Rattle.formula.specs.Laws.{OneFormula, CanonSpells, CanonSpellsWithin, NoFault, OneFault, Decided};
+ghost use Rattle.formula.specs.Laws.{OneFormula, FormulaTextSpells, CanonSpellsWithin, NoFormulaFault, OneFormulaFault, FormulaTextIsDecided};
 
 /// A text spells at most one formula: the grammar is unambiguous.
 pub fn one_formula()
@@ -8,8 +8,8 @@ pub fn one_formula()
 {}
 
 /// The canonical text of a formula that some text spells is a text of that formula.
-pub fn canon_spells()
-    ensures { CanonSpells }
+pub fn formula_text_spells()
+    ensures { FormulaTextSpells }
 {}
 
 /// The canonical text of a formula that some text spells within the limits is a text of it within the limits, where it
@@ -19,17 +19,17 @@ pub fn canon_spells_within()
 {}
 
 /// A text that spells an admitted formula within the limits has no deciding fault.
-pub fn no_fault()
-    ensures { NoFault }
+pub fn no_formula_fault()
+    ensures { NoFormulaFault }
 {}
 
 /// A text has at most one deciding fault, at one place.
-pub fn one_fault()
-    ensures { OneFault }
+pub fn one_formula_fault()
+    ensures { OneFormulaFault }
 {}
 
 /// It can't be that a text has neither: an admitted formula that it spells within the limits, or a deciding fault. So by
-/// `no_fault` it has just one of the two, and by `one_fault` one fault. Which of them isn't computed here: `parse` does.
+/// `no_formula_fault` it has just one of the two, and by `one_formula_fault` one fault. Which of them isn't computed here: `parse` does.
 pub fn decided()
-    ensures { Decided }
+    ensures { FormulaTextIsDecided }
 {}

@@ -5,12 +5,12 @@ ghost use Rattle.text.specs.Reads.{Reads};
 ghost use Rattle.grammar.specs.Syntax.{meant as meant_by};
 ghost use Rattle.formula.specs.Cutting.{IsLexed};
 ghost use Rattle.grammar.specs.Written.{bare_tokens, state_syntax};
-ghost use Rattle.formula.specs.Fault.{HasFaultAt, operand_faults, variable_faults};
+ghost use Rattle.formula.specs.Fault.{HasFormulaFaultAt, operand_faults, variable_faults};
 ghost use Rattle.grammar.specs.Read.{IsWholeFormula};
 ghost use Rattle.formula.specs.Refused.{IsGrammarRefusal, IsRefusal};
 ghost use Rattle.grammar.specs.Misread.{IsWholeMisread};
 ghost use Rattle.calculus.specs.Admitted.{IsAdmitted};
-ghost use Rattle.formula.specs.Checked.{IsTreeRefusal, IsTold, named};
+ghost use Rattle.formula.specs.Checked.{IsTreeRefusal, IsTold, formula_fault_of};
 ghost use Rattle.formula.specs.Spells.{Spells, SpellsWithin};
 ghost use Rattle.calculus.specs.Closed.{closed_formula};
 ghost use Rattle.calculus.specs.View.{formula_of};
@@ -139,7 +139,7 @@ fn tree(alloc: Global, text: &[u8]) -> Result<State, FormulaError>
 /// # Errors
 /// The fault that decides. A text without one is refused for want of memory alone.
 pub fn parse(alloc: Global, text: &[u8]) -> Result<Closed, FormulaError>
-    ensures { Reads Spells SpellsWithin (λ bytes f. SpellsWithin bytes f × IsAdmitted f) HasFaultAt closed_formula named (Some text.now) result }
+    ensures { Reads Spells SpellsWithin (λ bytes f. SpellsWithin bytes f × IsAdmitted f) HasFormulaFaultAt closed_formula formula_fault_of (Some text.now) result }
 {
     Ok(Closed::new(tree(alloc, text)?))
 }

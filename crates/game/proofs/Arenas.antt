@@ -7,19 +7,11 @@ use Rattle.game.proofs.Common.{IsShape, IsNode, IsForm, System, Vertex, IsVertex
 use Rattle.game.proofs.Common.{vertex_of, rows, arena, Even}
 use Rattle.std.proofs.lemmas.List.FromFn.{length-range_with_len}
 use Rattle.std.proofs.Math.Nat.{mul-le-mul_left, mul-le-mul_right}
-use Rattle.normal.specs.declared.node as declared
+use Rattle.forms.specs.declared.node as declared
 use Rattle.std.specs.Prelude.{max}
 use Rattle.game.specs.Game.{greatest, greatest_of}
 use Rattle.game.proofs.Rows.{all_append}
 use Rattle.game.proofs.Steps.{Rising}
-
--- The node of a number is what stands there.
-pub read_node : (xs : List declared.Node.Node) (nodes : List Node) (i : ℕ) (x : declared.Node.Node) (node : Node) → nodes_of xs ≡ nodes → i < length xs
-    → x ≡ get_or xs i x → slice_get nodes i ≡ Some node → node ≡ node_of x
-read_node xs nodes i x node same below read is =
-    let there : slice_get xs i ≡ Some x = slice_get_read xs (length xs) i x refl below read in
-    let e : Some node ≡ Some (node_of x) = sym is ∙ (ap (λ ys. slice_get ys i) (sym same) ∙ (slice_get-map node_of xs i ∙ ap (option_map node_of) there)) in
-    cc
 
 -- One node more is one vertex more.
 pub vertices_more : {X Y : Type 0} (f : X → Y) (xs : List X) (i : ℕ) (x : X) (y : Y) (base old new : List Y) → slice_get xs i ≡ Some x

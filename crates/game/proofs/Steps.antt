@@ -11,23 +11,6 @@ use Rattle.std.specs.List.Sorted.{IsNonDecreasingBy, IsPermutation}
 use Rattle.std.proofs.Math.ListN.{get_or-append}
 use Rattle.calculus.specs.Tree.{Action}
 
--- One set more.
-pub sets_more : (labels : List (List ℕ)) (nodes : List Node) (xs : List (List Bool)) (y : List Bool) (i : ℕ) → length xs ≡ i
-    → ((k : ℕ) (node : Node) → k < i → slice_get nodes k ≡ Some node → IsSetFor labels node.shape (slice_index_or xs k []))
-    → ((node : Node) → slice_get nodes i ≡ Some node → IsSetFor labels node.shape y)
-    → (k : ℕ) (node : Node) → k < i + 1 → slice_get nodes k ≡ Some node → IsSetFor labels node.shape (slice_index_or (xs ++ y ∷ []) k [])
-sets_more labels nodes xs y i count before here k node below is =
-    elim (eqb_tells k i) [
-      | inl w ↦
-          let at : k ≡ length xs = w.1 ∙ sym count in
-          let same : slice_index_or (xs ++ y ∷ []) k [] ≡ y = ap (λ j. get_or (xs ++ y ∷ []) j []) at ∙ get_or-append_seam xs y [] [] in
-          subst (IsSetFor labels node.shape) (sym same) (here node (ap (slice_get nodes) (sym w.1) ∙ is))
-      | inr w ↦
-          let short : k < i = omega (arith, w.1, below) in
-          let same : slice_index_or (xs ++ y ∷ []) k [] ≡ slice_index_or xs k [] = get_or-append xs (y ∷ []) [] k (omega (arith, short, count)) in
-          subst (IsSetFor labels node.shape) (sym same) (before k node short is)
-    ]
-
 -- numbers that rise from this one on and stay below the limit
 abbrev pub Rising : ℕ → ℕ → List ℕ → Type 0
 Rising least limit [] = Unit {0}

@@ -7,22 +7,10 @@ use Rattle.systems.specs.Numbered.{Numbered, label_at, arrow_of, arrows_from, Is
 use Rattle.systems.specs.declared.system.Transition.{Transition}
 use Rattle.calculus.specs.Tree.{Action}
 use Rattle.calculus.specs.Holds.{holds}
-use Rattle.normal.specs.Tree.{Shape, ConstantNode, JunctionNode, ModalityNode, FixpointNode, VariableNode}
-use Rattle.normal.specs.Nodes.{Node}
+use Rattle.forms.specs.Tree.{Shape, ConstantNode, JunctionNode, ModalityNode, FixpointNode, VariableNode}
+use Rattle.forms.specs.Nodes.{Node}
 use Rattle.game.specs.Game.{Vertex}
 use Rattle.game.specs.Arena.{place, or_else, sink, owner_of}
-
--- for each label whether the action formula holds of it
-abbrev pub IsSetOf : Action → List (List ℕ) → List Bool → Type 0
-IsSetOf a labels set = (k : ℕ) → k < length labels → k < 4294967296 → slice_index_or set k false ≡ holds a (label_at labels k)
-
-abbrev pub IsSetFor : List (List ℕ) → Shape → List Bool → Type 0
-IsSetFor labels (ModalityNode flag a child) set = IsSetOf a labels set
-IsSetFor labels _ set = set ≡ []
-
--- a set for each node
-abbrev pub AreSets : List (List ℕ) → List Node → List (List Bool) → Type 0
-AreSets labels nodes sets = (k : ℕ) (node : Node) → slice_get nodes k ≡ Some node → IsSetFor labels node.shape (slice_index_or sets k [])
 
 -- the transitions from the state, by target
 pub record IsRowOf (l : Numbered) (s : ℕ) (row : List Transition) : Type 0 where
@@ -30,9 +18,6 @@ pub record IsRowOf (l : Numbered) (s : ℕ) (row : List Transition) : Type 0 whe
   pub sorted : IsNonDecreasingBy (λ t. t.target) row
   pub inside : IsInside l row
   pub numbers : AllByRecursion (λ t. t.label < 4294967296) row
-
-abbrev pub is_in : List Bool → Transition → Bool
-is_in set t = slice_index_or set t.label false
 
 -- the targets from this one on of the transitions that pass, each once
 abbrev pub picks : (Transition → Bool) → ℕ → List Transition → List ℕ

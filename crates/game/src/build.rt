@@ -2,26 +2,25 @@
 
 ghost use Rattle.std.specs.Prelude.{◌≡◌, ◌+◌, ◌-◌, ◌*◌, ◌<◌, ◌≤◌, ◌++◌, ◌∷◌, [], Bool, false, length, map, slice_index_or, vec_len, IfOk, OnOk, OnErr, IfErr};
 ghost use Rattle.std.specs.List.{AllByRecursion, flat_map, range_with_len};
-ghost use Rattle.calculus.specs.View.{action_of};
-ghost use Rattle.normal.specs.Form.{IsForm, IsNode};
-ghost use Rattle.normal.specs.View.{node_of, shape_of};
-ghost use Rattle.normal.specs.Normal.{normal_nodes};
+ghost use Rattle.forms.specs.Form.{IsForm, IsNode};
+ghost use Rattle.forms.specs.View.{node_of};
+ghost use Rattle.forms.specs.Normal.{normal_nodes};
+ghost use Rattle.forms.specs.Taken.{AreSets, is_in};
 ghost use Rattle.game.specs.Game.{IsGame, greatest};
 ghost use Rattle.game.specs.Arena.{arena, rows, vertex_of, or_else, place};
 ghost use Rattle.game.specs.Parts.{vertices_of_range, two_sinks};
-ghost use Rattle.game.specs.Steps.{IsSetOf, IsSetFor, AreSets, IsRowOf, picks, is_in, vertex_by};
+ghost use Rattle.game.specs.Steps.{IsRowOf, picks, vertex_by};
 ghost use Rattle.game.specs.Refused.{HasBuildRefusal};
 
 use crate::error::BuildError;
 use crate::graph::{Game, GameBuilder};
 use crate::limits::MOST_VERTICES;
 use crate::player::Player;
-use calculus::holds;
-use calculus::tree::Act;
+use forms::form::Normal;
+use forms::labels::label_sets;
+use forms::limits::{GREATEST_PRIORITY, MOST_NODES};
+use forms::node::{Kind, Node};
 use gauge::Gauge;
-use normal::form::Normal;
-use normal::limits::{GREATEST_PRIORITY, MOST_NODES};
-use normal::node::{Kind, Node};
 use rayon::current_num_threads;
 use rayon::prelude::*;
 use std::alloc::{AllocError, Global};
@@ -36,45 +35,6 @@ const LEAST_SPLIT: u64 = 65_536;
 
 // The vertices of how many states are made from one telling to the next.
 const STATES_APART: u32 = 1_024;
-
-// For each label whether the action formula holds of it.
-fn set_of(alloc: Global, lts: &Lts, action: &Act) -> Result<Vec<bool>, AllocError>
-    ensures { IfOk result (λ set. IsSetOf (action_of action.now) lts.now.labels set.items) }
-{
-    let mut set = Vec::new(alloc);
-    for number in 0..lts.labels() {
-        let Ok(number) = u32::try_from(number) else {
-            break;
-        };
-        set.push(holds(action, &lts.label(number)))?;
-    }
-    Ok(set)
-}
-
-// The labels of which the node's action formula holds, if it has one.
-fn set_for(alloc: Global, lts: &Lts, node: &Node) -> Result<Vec<bool>, AllocError>
-    ensures { IfOk result (λ set. IsSetFor lts.now.labels (shape_of node.now.kind) set.items) }
-{
-    match &node.kind {
-        Kind::Dia(action, _) | Kind::Box(action, _) => set_of(alloc, lts, action),
-        _ => Ok(Vec::new(alloc)),
-    }
-}
-
-/// For each node and each label whether the node's action formula holds of the label. A node without one has no labels.
-///
-/// # Errors
-/// Want of memory, and nothing else.
-pub fn label_sets(alloc: Global, lts: &Lts, form: &Normal) -> Result<Vec<Vec<bool>>, AllocError>
-    ensures sets { IfOk result (λ sets. AreSets lts.now.labels (normal_nodes form.now) (map (λ set. set.items) sets.items)) }
-    ensures count { IfOk result (λ sets. vec_len sets ≡ length (normal_nodes form.now)) }
-{
-    let mut sets = Vec::new(alloc);
-    for node in form.nodes() {
-        sets.push(set_for(alloc, lts, node)?)?;
-    }
-    Ok(sets)
-}
 
 // Whether a label is in the set.
 fn has(set: &[bool], label: u32) -> bool

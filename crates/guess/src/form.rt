@@ -3,8 +3,8 @@
 use crate::edges::Kinds;
 use crate::numbers::Numbers;
 use crate::stock::Stock;
-use normal::form::Normal;
-use normal::node::Kind;
+use forms::form::Normal;
+use forms::node::Kind;
 
 /// No node.
 pub(crate) const NONE: u32 = u32::MAX;

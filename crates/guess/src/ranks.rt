@@ -14,7 +14,7 @@ use crate::scale::Scale;
 use crate::stock::Stock;
 use crate::whole::levels_of;
 use columns::column::{Column, Columns, Counted, Halves};
-use normal::form::Normal;
+use forms::form::Normal;
 use std::alloc::{AllocError, Global};
 use std::thread::Threads;
 use systems::system::Lts;

@@ -10,8 +10,8 @@ use crate::order::Order;
 use crate::reasons::{Kept, next_priority};
 use crate::scale::{PRIORITIES, Scale, ZERO};
 use crate::stock::Stock;
-use game::build::label_sets;
-use normal::form::Normal;
+use forms::form::Normal;
+use forms::labels::label_sets;
 use std::alloc::Global;
 use systems::system::Lts;
 use text::Memory;
@@ -275,7 +275,7 @@ fn places(stock: &mut Stock, nodes: u32, parts: &[Component]) -> Numbers {
 
 /// Which values are meant.
 #[derive(Clone, Copy, PartialEq, Eq)]
-pub enum Steps {
+pub enum StepCounts {
     /// The values of the table.
     Counted,
     /// Those without steps, from which they are found where the dual is guessed.
@@ -515,11 +515,11 @@ impl<'a> Whole<'a> {
     }
 
     /// The value of a node at a state, as a word.
-    pub fn value(&self, number: u32, state: u32, steps: Steps) -> u64 {
+    pub fn value(&self, number: u32, state: u32, steps: StepCounts) -> u64 {
         match (self.board.form.side, steps) {
             (Side::Own, _) => self.board.value(self.board.form.real(number), state),
-            (Side::Dual, Steps::Counted) => self.board.value(number, state),
-            (Side::Dual, Steps::LeftOut) => self.board.plain_value(number, state),
+            (Side::Dual, StepCounts::Counted) => self.board.value(number, state),
+            (Side::Dual, StepCounts::LeftOut) => self.board.plain_value(number, state),
         }
     }
 
@@ -535,7 +535,7 @@ impl<'a> Whole<'a> {
 
     // Whether Odd may go on from a position to this child: its value asks for that of the position, and ranks fall inside a component, but for
     // steps, by which values fall.
-    fn leads(&self, at: Position, steps: Steps, child: u32, target: u32) -> bool {
+    fn leads(&self, at: Position, steps: StepCounts, child: u32, target: u32) -> bool {
         let Position {
             part,
             number,
@@ -543,11 +543,11 @@ impl<'a> Whole<'a> {
         } = at;
         let form = &self.board.form;
         let asked = match steps {
-            Steps::Counted => {
+            StepCounts::Counted => {
                 let value = self.value(child, target, steps);
                 self.board.scale.prog(form.node(number).priority, value)
             }
-            Steps::LeftOut => self.value(child, target, steps),
+            StepCounts::LeftOut => self.value(child, target, steps),
         };
         if asked < self.value(number, state, steps) {
             return false;
@@ -558,30 +558,32 @@ impl<'a> Whole<'a> {
     }
 
     // Whether values have steps.
-    fn counts_steps(&self, steps: Steps) -> bool {
-        self.is_dual() && steps == Steps::Counted
+    fn counts_steps(&self, steps: StepCounts) -> bool {
+        self.is_dual() && steps == StepCounts::Counted
     }
 
     /// Where Odd goes on, as a vertex.
-    pub fn next(&self, at: Position, steps: Steps) -> u32 {
+    pub fn next(&self, at: Position, steps: StepCounts) -> u32 {
         let Position { number, state, .. } = at;
         let node = self.board.form.node(number);
         let (won, lost) = self.ends();
         match node.shape {
-            Shape::And if self.leads(at, steps, node.left, state) => self.vertex(node.left, state),
-            Shape::And => self.vertex(node.right, state),
+            Shape::And if self.leads(at, steps, node.left, state) => self.vertex_of(
+                node.left, state,
+            ),
+            Shape::And => self.vertex_of(node.right, state),
             Shape::Box => self.next_step(at, steps, node),
-            Shape::Binder | Shape::Variable => self.vertex(node.left, state),
+            Shape::Binder | Shape::Variable => self.vertex_of(node.left, state),
             Shape::False => lost,
             _ => won,
         }
     }
 
-    fn next_step(&self, at: Position, steps: Steps, node: Node) -> u32 {
+    fn next_step(&self, at: Position, steps: StepCounts, node: Node) -> u32 {
         for edge in self.board.forth.row(at.state) {
             let target = state_of(*edge);
             if takes(node.mask, *edge) && self.leads(at, steps, node.left, target) {
-                return self.vertex(node.left, target);
+                return self.vertex_of(node.left, target);
             }
         }
         let (won, _) = self.ends();
@@ -589,22 +591,22 @@ impl<'a> Whole<'a> {
     }
 
     /// What is to be claimed at a position, as a word; zero where nothing is. In the dual the values of a cycle are claimed without steps first.
-    pub fn claimed(&self, at: Position, steps: Steps) -> u64 {
+    pub fn claimed(&self, at: Position, steps: StepCounts) -> u64 {
         let word = self.value(at.number, at.state, steps);
         if !self.is_dual() {
             return word;
         }
         let is_sooner = match steps {
-            Steps::LeftOut => !at.part.is_cyclic(),
-            Steps::Counted => {
-                at.part.is_cyclic() && self.value(at.number, at.state, Steps::LeftOut) == word
+            StepCounts::LeftOut => !at.part.is_cyclic(),
+            StepCounts::Counted => {
+                at.part.is_cyclic() && self.value(at.number, at.state, StepCounts::LeftOut) == word
             }
         };
         if is_sooner { ZERO } else { word }
     }
 
     /// Writes the rank of what is claimed. Steps have ranks of zeros: their values fall.
-    pub fn claimed_rank_into(&self, at: Position, steps: Steps, rank: &mut [u32]) {
+    pub fn claimed_rank_into(&self, at: Position, steps: StepCounts, rank: &mut [u32]) {
         if self.counts_steps(steps) {
             rank.fill(0);
         } else {
@@ -613,7 +615,7 @@ impl<'a> Whole<'a> {
     }
 
     /// The vertex of a node at a state.
-    pub fn vertex(&self, number: u32, state: u32) -> u32 {
+    pub fn vertex_of(&self, number: u32, state: u32) -> u32 {
         let first = state.wrapping_mul(self.board.form.count());
         first.wrapping_add(number).wrapping_add(2)
     }

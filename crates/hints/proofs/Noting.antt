@@ -7,11 +7,11 @@ use Rattle.std.proofs.lemmas.List.Folds.{list_any-append}
 use Rattle.std.proofs.lemmas.List.Sums.{fold-append}
 use Rattle.std.specs.List.{list_any}
 use Rattle.std.specs.Str.{bytes_eq}
-use Rattle.systems.specs.Label.{reading, texts}
+use Rattle.systems.specs.Label.{multi_action_of, texts}
 use Rattle.systems.specs.Numbered.{label_at}
 use Rattle.hints.specs.declared.strange.Word.{Word}
 use Rattle.hints.specs.declared.strange.TheConstants.{MOST_NOTES}
-use Rattle.hints.specs.Strange.{NameOrAtom, Name, has_term, is_among, same_term, term_of}
+use Rattle.hints.specs.Strange.{NameOrAtom, Name, has_term, is_among, same_term, name_or_atom}
 use Rattle.hints.specs.Noted.{is_known, with_term}
 
 -- ------------------------------------------------------------------ lists
@@ -37,29 +37,29 @@ or_false false = refl
 
 -- a word is to be noted
 abbrev pub is_noted : (NameOrAtom → Bool) → List Word → Word → Bool
-is_noted known found word = nat_lt (length found) MOST_NOTES && not (list_any (λ other. same_term (term_of word) (term_of other)) found)
-    && not (known (term_of word))
+is_noted known found word = nat_lt (length found) MOST_NOTES && not (list_any (λ other. same_term (name_or_atom word) (name_or_atom other)) found)
+    && not (known (name_or_atom word))
 
 with_word : (known : NameOrAtom → Bool) (found : List Word) (word : Word)
-    → with_term known (map term_of found) (term_of word) ≡ cond (is_noted known found word) (map term_of found ++ term_of word ∷ []) (map term_of found)
+    → with_term known (map name_or_atom found) (name_or_atom word) ≡ cond (is_noted known found word) (map name_or_atom found ++ name_or_atom word ∷ []) (map name_or_atom found)
 with_word known found word =
-    let t = term_of word in
-    let e : (nat_lt (length (map term_of found)) MOST_NOTES && not (list_any (same_term t) (map term_of found)) && not (known t)) ≡ is_noted known found word =
-    rw (length-map found term_of, any_map term_of (same_term t) found) refl in
-    ap (λ b. cond b (map term_of found ++ t ∷ []) (map term_of found)) e
+    let t = name_or_atom word in
+    let e : (nat_lt (length (map name_or_atom found)) MOST_NOTES && not (list_any (same_term t) (map name_or_atom found)) && not (known t)) ≡ is_noted known found word =
+    rw (length-map found name_or_atom, any_map name_or_atom (same_term t) found) refl in
+    ap (λ b. cond b (map name_or_atom found ++ t ∷ []) (map name_or_atom found)) e
 
 pub word_noted : (known : NameOrAtom → Bool) (found new : List Word) (word : Word) (b : Bool) → b ≡ is_noted known found word → b ≡ true → new ≡ found ++ word ∷ []
-    → map term_of new ≡ with_term known (map term_of found) (term_of word)
+    → map name_or_atom new ≡ with_term known (map name_or_atom found) (name_or_atom word)
 word_noted known found new word b is holds pushed =
     let e : is_noted known found word ≡ true = sym is ∙ holds in
-    ap (map term_of) pushed ∙ map-append term_of found (word ∷ [])
-    ∙ sym (with_word known found word ∙ ap (λ b. cond b (map term_of found ++ term_of word ∷ []) (map term_of found)) e)
+    ap (map name_or_atom) pushed ∙ map-append name_or_atom found (word ∷ [])
+    ∙ sym (with_word known found word ∙ ap (λ b. cond b (map name_or_atom found ++ name_or_atom word ∷ []) (map name_or_atom found)) e)
 
 pub word_left : (known : NameOrAtom → Bool) (found : List Word) (word : Word) (b : Bool) → b ≡ is_noted known found word → b ≡ false
-    → map term_of found ≡ with_term known (map term_of found) (term_of word)
+    → map name_or_atom found ≡ with_term known (map name_or_atom found) (name_or_atom word)
 word_left known found word b is fails =
     let e : is_noted known found word ≡ false = sym is ∙ fails in
-    sym (with_word known found word ∙ ap (λ b. cond b (map term_of found ++ term_of word ∷ []) (map term_of found)) e)
+    sym (with_word known found word ∙ ap (λ b. cond b (map name_or_atom found ++ name_or_atom word ∷ []) (map name_or_atom found)) e)
 
 -- ------------------------------------------------------------------ names one by one
 
@@ -103,13 +103,13 @@ or_cond false true = refl
 or_cond false false = refl
 
 pub names_read : (old new : Bool) (bytes label : List ℕ) (names : Option (Bor (List (Vec ℕ Global)))) (r : Bor (List (Vec ℕ Global)))
-    → option_map (λ (n : Bor (List (Vec ℕ Global))). texts n.now) names ≡ reading label → names ≡ Some r
-    → new ≡ (old || list_any (λ n. bytes_eq n bytes) (texts r.now)) → new ≡ (old || is_among bytes (reading label))
+    → option_map (λ (n : Bor (List (Vec ℕ Global))). texts n.now) names ≡ multi_action_of label → names ≡ Some r
+    → new ≡ (old || list_any (λ n. bytes_eq n bytes) (texts r.now)) → new ≡ (old || is_among bytes (multi_action_of label))
 names_read old new bytes label names r read some so =
     so ∙ ap (λ o. old || is_among bytes o) (sym (ap (option_map (λ (n : Bor (List (Vec ℕ Global))). texts n.now)) some) ∙ read)
 
 pub no_names_read : (old : Bool) (bytes label : List ℕ) (names : Option (Bor (List (Vec ℕ Global))))
-    → option_map (λ (n : Bor (List (Vec ℕ Global))). texts n.now) names ≡ reading label → names ≡ None → old ≡ (old || is_among bytes (reading label))
+    → option_map (λ (n : Bor (List (Vec ℕ Global))). texts n.now) names ≡ multi_action_of label → names ≡ None → old ≡ (old || is_among bytes (multi_action_of label))
 no_names_read old bytes label names read none =
     sym (or_false old) ∙ ap (λ o. old || is_among bytes o) (sym (ap (option_map (λ (n : Bor (List (Vec ℕ Global))). texts n.now)) none) ∙ read)
 

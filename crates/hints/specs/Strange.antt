@@ -2,7 +2,7 @@
 use Rattle.std.specs.Prelude.{ℕ, Bool, false, not, List, [], ◌∷◌, ◌++◌, filter, map, take, Option, Some, None}
 use Rattle.std.specs.List.{list_any}
 use Rattle.std.specs.Str.{bytes_eq}
-use Rattle.systems.specs.Label.{reading}
+use Rattle.systems.specs.Label.{multi_action_of}
 use Rattle.systems.specs.Numbered.{Numbered}
 use Rattle.calculus.specs.Tree.{Action, Anything, Nothing, Names, Quoted, NotAct, AndAct, OrAct, ImpliesAct, Regular, Step, Then, Either, Star, Plus, Formula}
 use Rattle.calculus.specs.Tree.{True, False, Var, Not, And, Or, Implies, Dia, Box, Mu, Nu}
@@ -15,9 +15,9 @@ pub data NameOrAtom : Type 0 where
   Name : (bytes : List ℕ) → NameOrAtom
   Atom : (bytes : List ℕ) → NameOrAtom
 
-abbrev pub term_of : Word → NameOrAtom
-term_of (word.Name bytes) = Name bytes.now
-term_of (word.Atom bytes) = Atom bytes.now
+abbrev pub name_or_atom : Word → NameOrAtom
+name_or_atom (word.Name bytes) = Name bytes.now
+name_or_atom (word.Atom bytes) = Atom bytes.now
 
 -- those of a formula, in order
 abbrev pub action_terms : Action → List NameOrAtom
@@ -57,7 +57,7 @@ is_among bytes (Some names) = list_any (λ name. bytes_eq name bytes) names
 
 -- the label has the name, or it is the quoted one
 abbrev pub has_term : NameOrAtom → List ℕ → Bool
-has_term (Name bytes) label = is_among bytes (reading label)
+has_term (Name bytes) label = is_among bytes (multi_action_of label)
 has_term (Atom bytes) label = bytes_eq label bytes
 
 -- no label has it

@@ -7,7 +7,7 @@ ghost use Rattle.calculus.specs.Closed.{closed_formula};
 ghost use Rattle.calculus.specs.View.{action_of, formula_of, regular_of};
 ghost use Rattle.systems.specs.Label.{texts};
 ghost use Rattle.hints.specs.Noted.{is_known, knows, with_term};
-ghost use Rattle.hints.specs.Strange.{Atom, Name, action_terms, formula_terms, has_term, regular_terms, same_term, strange_terms, term_of};
+ghost use Rattle.hints.specs.Strange.{Atom, Name, action_terms, formula_terms, has_term, regular_terms, same_term, strange_terms, name_or_atom};
 
 use calculus::closed::Closed;
 use calculus::tree::{Act, Reg, State};
@@ -30,7 +30,7 @@ pub enum Word<'a> {
 impl<'a> Word<'a> {
     // Whether it is the other one.
     fn is(self, other: Word<'_>) -> bool
-        ensures { result ≡ same_term (term_of self.entry) (term_of other.entry) }
+        ensures { result ≡ same_term (name_or_atom self.entry) (name_or_atom other.entry) }
     {
         match (self, other) {
             (Word::Name(a), Word::Name(b)) | (Word::Atom(a), Word::Atom(b)) => a == b,
@@ -60,7 +60,7 @@ impl<'a> Known<'a> {
 
     // Whether the word is among them.
     pub(crate) fn has(&self, word: Word<'_>) -> bool
-        ensures { result ≡ knows self.now (term_of word.entry) }
+        ensures { result ≡ knows self.now (name_or_atom word.entry) }
     {
         match word {
             Word::Name(bytes) => self.names.contains(&bytes),
@@ -100,22 +100,22 @@ pub(crate) fn known_in<'a>(alloc: Global, system: &'a Lts) -> Result<Known<'a>, 
 
 // Whether the word stands there.
 fn stands_in(word: Word<'_>, found: &[Word<'_>]) -> bool
-    ensures { result ≡ list_any (λ other. same_term (term_of word.entry) (term_of other)) found.now }
+    ensures { result ≡ list_any (λ other. same_term (name_or_atom word.entry) (name_or_atom other)) found.now }
 {
     found.iter().any(|other| word.is(*other))
 }
 
 // Whether the word is to be noted: enough aren't noted yet, nor is it, and no label has it.
 fn is_next(known: &Known<'_>, word: Word<'_>, found: &[Word<'_>]) -> bool
-    ensures { result ≡ (nat_lt (length found.now) MOST_NOTES && not (list_any (λ other. same_term (term_of word.entry) (term_of other)) found.now)
-        && not (knows known.now (term_of word.entry))) }
+    ensures { result ≡ (nat_lt (length found.now) MOST_NOTES && not (list_any (λ other. same_term (name_or_atom word.entry) (name_or_atom other)) found.now)
+        && not (knows known.now (name_or_atom word.entry))) }
 {
     found.len() < MOST_NOTES && !stands_in(word, found) && !known.has(word)
 }
 
 // Notes a word, if it is to be noted.
 fn note<'a>(known: &Known<'_>, word: Word<'a>, found: &mut Vec<Word<'a>>) -> Result<(), AllocError>
-    ensures { OnOk result (map term_of found.new.items ≡ with_term (knows known.now) (map term_of found.old.items) (term_of word.entry)) }
+    ensures { OnOk result (map name_or_atom found.new.items ≡ with_term (knows known.now) (map name_or_atom found.old.items) (name_or_atom word.entry)) }
 {
     if is_next(known, word, found) {
         found.push(word)?;
@@ -129,7 +129,7 @@ fn note_names<'a>(
     names: &'a [Vec<u8>],
     found: &mut Vec<Word<'a>>,
 ) -> Result<(), AllocError>
-    ensures { OnOk result (map term_of found.new.items ≡ fold (with_term (knows known.now)) (map term_of found.old.items) (map Name (texts names.entry.now))) }
+    ensures { OnOk result (map name_or_atom found.new.items ≡ fold (with_term (knows known.now)) (map name_or_atom found.old.items) (map Name (texts names.entry.now))) }
 {
     for name in names {
         note(known, Word::Name(name.as_slice()), found)?;
@@ -143,7 +143,7 @@ fn note_action<'a>(
     action: &'a Act,
     found: &mut Vec<Word<'a>>,
 ) -> Result<(), AllocError>
-    ensures { OnOk result (map term_of found.new.items ≡ fold (with_term (knows known.now)) (map term_of found.old.items)
+    ensures { OnOk result (map name_or_atom found.new.items ≡ fold (with_term (knows known.now)) (map name_or_atom found.old.items)
         (action_terms (action_of action.entry.now))) }
 {
     match action {
@@ -164,7 +164,7 @@ fn note_regular<'a>(
     regular: &'a Reg,
     found: &mut Vec<Word<'a>>,
 ) -> Result<(), AllocError>
-    ensures { OnOk result (map term_of found.new.items ≡ fold (with_term (knows known.now)) (map term_of found.old.items)
+    ensures { OnOk result (map name_or_atom found.new.items ≡ fold (with_term (knows known.now)) (map name_or_atom found.old.items)
         (regular_terms (regular_of regular.entry.now))) }
 {
     match regular {
@@ -183,7 +183,7 @@ fn note_formula<'a>(
     formula: &'a State,
     found: &mut Vec<Word<'a>>,
 ) -> Result<(), AllocError>
-    ensures { OnOk result (map term_of found.new.items ≡ fold (with_term (knows known.now)) (map term_of found.old.items)
+    ensures { OnOk result (map name_or_atom found.new.items ≡ fold (with_term (knows known.now)) (map name_or_atom found.old.items)
         (formula_terms (formula_of formula.entry.now))) }
 {
     match formula {
@@ -212,7 +212,7 @@ pub fn strange_words<'a>(
     system: &Lts,
     formula: &'a Closed,
 ) -> Result<Vec<Word<'a>>, Memory>
-    ensures { IfOk result (λ words. map term_of words.items ≡ strange_terms system.now (closed_formula formula.entry.now)) }
+    ensures { IfOk result (λ words. map name_or_atom words.items ≡ strange_terms system.now (closed_formula formula.entry.now)) }
 {
     match strange_in(alloc, system, formula.tree()) {
         Ok(words) => Ok(words),
@@ -225,7 +225,7 @@ fn strange_in<'a>(
     system: &Lts,
     formula: &'a State,
 ) -> Result<Vec<Word<'a>>, AllocError>
-    ensures { IfOk result (λ words. map term_of words.items ≡ strange_terms system.now (formula_of formula.entry.now)) }
+    ensures { IfOk result (λ words. map name_or_atom words.items ≡ strange_terms system.now (formula_of formula.entry.now)) }
 {
     let known = known_in(alloc, system)?;
     let mut found = Vec::new(alloc);

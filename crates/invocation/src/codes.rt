@@ -26,7 +26,7 @@ pub const BARE_LABEL: &str = "a label with parameters wants quotes, as in \
 `<\"take(0,1)\">true`";
 
 /// The entry of a code.
-pub fn entry_of(code: &str) -> Option<&'static CodeEntry>
+pub fn code_entry(code: &str) -> Option<&'static CodeEntry>
     ensures { IfSome result (λ entry. entry.now.code.now ≡ code.now) }
 {
     entries_beside(code).iter().find(|entry| entry.code == code)

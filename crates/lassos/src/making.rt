@@ -3,7 +3,7 @@
 ghost use Rattle.std.specs.Prelude.{◌≡◌, ◌<◌, IfOk, IfSome, IsTrue, length};
 ghost use Rattle.evidence.specs.Evidence.{IsGood, counted, has as has_entry};
 ghost use Rattle.game.specs.Arena.{arena};
-ghost use Rattle.normal.specs.Normal.{normal_nodes};
+ghost use Rattle.forms.specs.Normal.{normal_nodes};
 ghost use Rattle.witness.specs.Witness.{GoesOneWay, root_of};
 
 use crate::field::Field;
@@ -14,12 +14,12 @@ use evidence::draft::Draft;
 use evidence::evidence::Evidence;
 use evidence::verdict::Verdict;
 use evidence::verify::verify;
+use forms::form::Normal;
+use forms::node::Kind;
 use game::graph::Game;
 use game::player::Player;
 use lts::Lts;
 use measures::table::Settled;
-use normal::form::Normal;
-use normal::node::Kind;
 use std::alloc::{AllocError, Global};
 use text::Memory;
 use winners::arena::{owner, priority};

@@ -4,8 +4,8 @@ use Rattle.systems.specs.System.{System, IsSystem}
 use Rattle.calculus.specs.Tree.{Formula}
 use Rattle.calculus.specs.Admitted.{IsAdmitted}
 use Rattle.calculus.specs.Meaning.{no_sets, Satisfies}
-use Rattle.normal.specs.Tree.{Norm, normal_form}
-use Rattle.normal.specs.Nodes.{Node, nodes}
+use Rattle.forms.specs.Tree.{Norm, normal_form}
+use Rattle.forms.specs.Nodes.{Node, nodes}
 use Rattle.game.specs.Game.{Game}
 use Rattle.game.specs.Wins.{Wins}
 use Rattle.game.specs.Arena.{arena, place}
@@ -13,7 +13,7 @@ use Rattle.progress.specs.Measure.{Measure, Top, IsAtMost}
 use Rattle.progress.specs.Progress.{IsProgress, IsLeastTable, value_at}
 use Rattle.progress.proofs.Measures.{top_last}
 use Rattle.progress.proofs.StrategyTable.{wins_table}
-use Rattle.normal.proofs.Numbers.{size_some}
+use Rattle.forms.proofs.Sizes.{size_some}
 use Rattle.laws.specs.Admissible.{IsNodes}
 use Rattle.laws.specs.NodeMeaning.{node_mean}
 use Rattle.laws.specs.Laws.{EvenWinsWhereMeant, LeastTableDecides, EvenWinsFormula, LeastTableFormula, NestedWins, NestedTableDecides}

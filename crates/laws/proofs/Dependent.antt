@@ -1,10 +1,10 @@
 -- The dependent rule's priorities are admissible.
 use Rattle.std.proofs.Common.{◌≡◌, ℕ, ◌+◌, ◌≤◌, max, Bool, true, false, ap, ◌∙◌, inl, inr, arith, eq-eqb}
 use Rattle.std.specs.Prelude.{if◌then◌else◌}
-use Rattle.normal.specs.Tree.{Norm, Constant, Junction, Modality, Fixpoint, Variable, size, normal_form}
-use Rattle.normal.specs.Nodes.{nodes_by, parity_from}
-use Rattle.normal.specs.Rules.{names, above, dependent}
-use Rattle.normal.specs.declared.priorities.Priorities.TheVariants.{Nested, Dependent}
+use Rattle.forms.specs.Tree.{Norm, Constant, Junction, Modality, Fixpoint, Variable, size, normal_form}
+use Rattle.forms.specs.Nodes.{nodes_by, parity_from}
+use Rattle.forms.specs.Rules.{names, above, dependent}
+use Rattle.forms.specs.declared.priorities.Priorities.TheVariants.{Nested, Dependent}
 use Rattle.progress.specs.Measure.{is_odd}
 use Rattle.laws.specs.Admissible.{IsFree, IsEach, IsAboveInner, priority_in}
 use Rattle.laws.specs.Laws.{ChosenIsAdmissible}

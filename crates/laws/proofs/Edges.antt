@@ -2,7 +2,7 @@
 use Rattle.std.proofs.Common.{◌≡◌, ℕ, ◌⊎◌, true, false, List, [], ◌∷◌, map, refl, sym, ap, inl, inr, arith, true≢false}
 use Rattle.std.specs.Prelude.{Contains, ◌≢◌}
 use Rattle.systems.specs.System.{System}
-use Rattle.normal.specs.Tree.{Shape, ConstantNode, JunctionNode, ModalityNode, FixpointNode, VariableNode}
+use Rattle.forms.specs.Tree.{Shape, ConstantNode, JunctionNode, ModalityNode, FixpointNode, VariableNode}
 use Rattle.game.specs.declared.player.Player.TheVariants.{Even, Odd}
 use Rattle.game.specs.Arena.{targets, place, or_else, owner_of, successors_of}
 use Rattle.progress.proofs.Lists.{contains_none}

@@ -1,9 +1,9 @@
 -- The nodes by a rule have its priorities, and the nested rule's are admissible.
 use Rattle.std.proofs.Common.{◌≡◌, ℕ, ◌+◌, ◌≤◌, Bool, true, false, refl, ap, ◌∙◌, inl, inr, arith}
 use Rattle.std.specs.Prelude.{◌%◌}
-use Rattle.normal.specs.Tree.{Norm, Constant, Junction, Modality, Fixpoint, Variable, size, normal_form}
-use Rattle.normal.specs.Nodes.{Node, node_at, nodes_by, nested, greatest_nested, parity_from}
-use Rattle.normal.proofs.Numbers.{no_less}
+use Rattle.forms.specs.Tree.{Norm, Constant, Junction, Modality, Fixpoint, Variable, size, normal_form}
+use Rattle.forms.specs.Nodes.{Node, node_at, nodes_by, nested_rule, greatest_nested, parity_from}
+use Rattle.forms.proofs.Sizes.{no_less}
 use Rattle.progress.specs.Measure.{is_odd}
 use Rattle.laws.specs.Admissible.{IsFree, IsEach, IsFitting, priority_or, priority_in}
 use Rattle.laws.specs.Laws.{NodesFollow, NestedIsAdmissible}
@@ -27,7 +27,7 @@ parity_is false n = other_false (parity_from false n % 2) 1 (λ e. omega arith)
 abbrev IsUnderOuter : (ℕ → ℕ) → ℕ → Norm → Type 0
 IsUnderOuter prio at f = (b : ℕ) → IsFree b at f → greatest_nested f ≤ prio b
 
-nested_fits : (prio : ℕ → ℕ) (at : ℕ) (f : Norm) → IsEach (λ k g. prio k ≡ nested k g) at f → IsUnderOuter prio at f → IsEach (IsFitting prio) at f
+nested_fits : (prio : ℕ → ℕ) (at : ℕ) (f : Norm) → IsEach (λ k g. prio k ≡ nested_rule k g) at f → IsUnderOuter prio at f → IsEach (IsFitting prio) at f
 nested_fits prio at (Constant flag) h outer = h
 nested_fits prio at (Junction flag f g) h outer = (
   h.0,
@@ -49,8 +49,8 @@ nested_fits prio at (Variable b) h outer = h
 -- the normal form's nodes are those of a closed tree with admissible priorities
 pub nested_is_admissible : NestedIsAdmissible
 nested_is_admissible f admitted = record {
-  shapes = (nodes_follow nested (normal_form f)).0;
+  shapes = (nodes_follow nested_rule (normal_form f)).0;
   closed = normal_closed f admitted;
-  admissible = nested_fits (priority_in (nodes_by nested 0 (normal_form f))) 0 (normal_form f) (nodes_follow nested (normal_form f)).1
+  admissible = nested_fits (priority_in (nodes_by nested_rule 0 (normal_form f))) 0 (normal_form f) (nodes_follow nested_rule (normal_form f)).1
       (λ b free. absurd (normal_closed f admitted b free));
 }

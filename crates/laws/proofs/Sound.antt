@@ -3,8 +3,8 @@ use Rattle.std.proofs.Common.{◌≡◌, ◌≢◌, ℕ, ◌+◌, ◌<◌, ◌�
 use Rattle.std.specs.Prelude.{IsTrue, Contains, Some, slice_get}
 use Rattle.game.specs.declared.player.Player.TheVariants.{Even, Odd}
 use Rattle.systems.specs.System.{System}
-use Rattle.normal.specs.Tree.{Norm, Constant, Junction, Modality, Fixpoint, Variable, size, Shape, shape_at}
-use Rattle.normal.specs.Nodes.{Node}
+use Rattle.forms.specs.Tree.{Norm, Constant, Junction, Modality, Fixpoint, Variable, size, Shape, shape_at}
+use Rattle.forms.specs.Nodes.{Node}
 use Rattle.game.specs.Game.{Game}
 use Rattle.game.specs.Arena.{targets, place, owner_of, vertex_of, successors_of, arena}
 use Rattle.progress.specs.Measure.{Measure, Top, Counts, Reaches}

@@ -1,7 +1,7 @@
 -- Nodes of a closed tree, with priorities that fit its binders.
 use Rattle.std.specs.Prelude.{◌≡◌, ◌≢◌, ℕ, ◌+◌, ◌≤◌, ◌⊎◌, List, map, Option, Some, None, slice_get}
-use Rattle.normal.specs.Tree.{Norm, Constant, Junction, Modality, Fixpoint, Variable, size, Shape, shape_at, preorder}
-use Rattle.normal.specs.Nodes.{Node}
+use Rattle.forms.specs.Tree.{Norm, Constant, Junction, Modality, Fixpoint, Variable, size, Shape, shape_at, preorder}
+use Rattle.forms.specs.Nodes.{Node}
 use Rattle.progress.specs.Measure.{is_odd}
 
 -- The variable of binder b stands in the tree, and the binder around the tree.

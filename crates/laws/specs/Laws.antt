@@ -4,10 +4,10 @@ use Rattle.systems.specs.System.{System, IsSystem}
 use Rattle.calculus.specs.Tree.{Formula}
 use Rattle.calculus.specs.Admitted.{IsAdmitted}
 use Rattle.calculus.specs.Meaning.{no_sets, Satisfies}
-use Rattle.normal.specs.Tree.{Norm, shape_at, preorder, formula_from, normal_form}
-use Rattle.normal.specs.Nodes.{Node, Rule, nodes_by, nodes}
-use Rattle.normal.specs.Rules.{nodes_with}
-use Rattle.normal.specs.declared.priorities.Priorities.{Priorities}
+use Rattle.forms.specs.Tree.{Norm, shape_at, preorder, formula_from, normal_form}
+use Rattle.forms.specs.Nodes.{Node, Rule, nodes_by, nodes}
+use Rattle.forms.specs.Rules.{nodes_with}
+use Rattle.forms.specs.declared.priorities.Priorities.{Priorities}
 use Rattle.game.specs.declared.player.Player.TheVariants.{Even}
 use Rattle.game.specs.Arena.{place, arena}
 use Rattle.game.specs.Wins.{IsStrategy, Wins}

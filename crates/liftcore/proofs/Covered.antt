@@ -17,7 +17,7 @@ use Rattle.progress.proofs.Measures.{at_most_itself, below_at_most, own_greater}
 use Rattle.progress.proofs.Plain.{value_set_other, value_set_same}
 use Rattle.progress.proofs.Settling.{all_still}
 use Rattle.game.specs.NumberSet.{with_number}
-use Rattle.liftcore.specs.Core.{with_note, without, Core, Note, Worker, Idle, Holding, Owing, is_empty, is_idle, is_quiet, noted, owing, start}
+use Rattle.liftcore.specs.Core.{with_note, without, Core, Note, Worker, Idle, Holding, Owing, is_empty, is_idle, is_quiet, noted, owing, starting_core}
 use Rattle.game.specs.Predecessors.{predecessors}
 use Rattle.liftcore.specs.Step.{Does, Steps, value_in, with_pending, with_value, with_worker}
 use Rattle.liftcore.specs.declared.event.Event.{Event}
@@ -187,7 +187,7 @@ covered_does old new (Raise w) d s all = subst AllCovered (sym d.effect) (raise_
     (below_at_most (value_in old d.u) d.lifted b) y x at (all y x at))
     (λ b y x at. stay_covers old w d.u d.notes d.x d.values d.lifted d.holds d.held d.read d.lift b y x at (all y x at)))
 
-covered_start : (g : Game) (workers : ℕ) → AllCovered (start g workers)
+covered_start : (g : Game) (workers : ℕ) → AllCovered (starting_core g workers)
 covered_start g workers y x at = let l = slice_get_within g.vertices y x at in inl (gives_range 0 (length g.vertices) y (omega arith) (omega (arith, l)))
 
 -- where all is quiet nothing is left but that the vertex is settled
@@ -205,11 +205,11 @@ quiet_settled c y x none idle (inr (inr (inr s))) = s
 still_from : (g : Game) (values : List Measure) (y : ℕ) (x : Vertex) → vertex g y ≡ Some x → Settled g values y x → IsStill g values y
 still_from g values y x at s = (x, at, (s.progs, s.best, s.zipped, s.best_is, sym (own_greater (value_at values y) s.best s.under)))
 
-pub quiet_is_settled : (g : Game) (workers : ℕ) (events : List Event) (dones : List Bool) (c : Core) → IsGame g → Steps (start g workers) events dones c
+pub quiet_is_settled : (g : Game) (workers : ℕ) (events : List Event) (dones : List Bool) (c : Core) → IsGame g → Steps (starting_core g workers) events dones c
     → IsTrue (is_quiet c) → IsProgress g c.table.values
 quiet_is_settled g workers events dones c game steps quiet =
     let kept = steps_keep (λ k. Sound k × AllCovered k) (λ old new event d p. (sound_does old new event d p.0, covered_does old new event d p.0 p.1))
-    (start g workers) c events dones steps
+    (starting_core g workers) c events dones steps
     (sound_start g workers game, covered_start g workers) in
     let parts = and_both (is_empty c.pending) (list_all is_idle c.workers) quiet in
     subst (λ h. IsProgress h c.table.values) (game_stays g workers events dones c steps)

@@ -6,7 +6,7 @@ use Rattle.std.proofs.lemmas.Bool.Decides.{leb_tells}
 use Rattle.text.specs.Text.{pieces_of}
 use Rattle.text.specs.Tokens.{whole_number}
 use Rattle.liftcore.specs.Scan.{event_at}
-use Rattle.liftcore.specs.Schedule.{HasFault, IsEventLine, IsGoodLine, IsSchedule, LineFault, vertex_of_event, worker_of_event}
+use Rattle.liftcore.specs.Schedule.{HasScheduleFault, IsEventLine, IsGoodScheduleLine, IsSchedule, ScheduleLineFault, vertex_of_event, worker_of_event}
 use Rattle.liftcore.specs.declared.event.Event.{Event}
 use Rattle.liftcore.specs.declared.error.ScheduleFault.{ScheduleFault}
 use Rattle.liftcore.specs.declared.error.ScheduleFault.TheVariants.{BadLine, NoSuchVertex, NoSuchWorker}
@@ -16,7 +16,7 @@ use Rattle.liftcore.proofs.Schedules as schedules
 
 module _ (workers vertices : ℕ) where
   abbrev Judged : List ℕ → Type 0
-  Judged line = ((event : Event) × IsGoodLine workers vertices line event) ⊎ ((fault : ScheduleFault) × LineFault workers vertices line fault)
+  Judged line = ((event : Event) × IsGoodScheduleLine workers vertices line event) ⊎ ((fault : ScheduleFault) × ScheduleLineFault workers vertices line fault)
 
   by_vertex : (line : List ℕ) (event : Event) → IsEventLine line event → worker_of_event event < workers → (o : Option ℕ) → vertex_of_event event ≡ o
       → Judged line
@@ -40,13 +40,13 @@ module _ (workers vertices : ℕ) where
   -- all lines are good, or one is the first that isn't
   abbrev Lines : List (List ℕ) → Type 0
   Lines all =
-      ((events : List Event) × AllZip (IsGoodLine workers vertices) all events)
+      ((events : List Event) × AllZip (IsGoodScheduleLine workers vertices) all events)
       ⊎ ((fault : ScheduleFault) × (front : List (List ℕ)) × (line : List ℕ) × (back : List (List ℕ)) × (before : List Event) × (all ≡ front ++ line ∷ back)
-      × AllZip (IsGoodLine workers vertices) front before × LineFault workers vertices line fault)
+      × AllZip (IsGoodScheduleLine workers vertices) front before × ScheduleLineFault workers vertices line fault)
 
-  behind : (all front back : List (List ℕ)) (events : List Event) → all ≡ front ++ back → AllZip (IsGoodLine workers vertices) front events → Lines all
+  behind : (all front back : List (List ℕ)) (events : List Event) → all ≡ front ++ back → AllZip (IsGoodScheduleLine workers vertices) front events → Lines all
   behind all front [] events cut each =
-      inl (events, subst (λ lines. AllZip (IsGoodLine workers vertices) lines events) (sym (cut ∙ append-nil front)) each)
+      inl (events, subst (λ lines. AllZip (IsGoodScheduleLine workers vertices) lines events) (sym (cut ∙ append-nil front)) each)
   behind all front (line ∷ back) events cut each = elim (by_scan line (event_at whole_number line) refl) [
     | inl good ↦ behind all (front ++ line ∷ []) back (events ++ good.0 ∷ []) (cut ∙ sym (append_assoc front (line ∷ []) back))
         (each_more workers vertices front events line good.0 each good.1)
@@ -54,7 +54,7 @@ module _ (workers vertices : ℕ) where
   ]
 
   pub decided : (text : List ℕ) → ((events : List Event) × IsSchedule workers vertices text events)
-      ⊎ ((fault : ScheduleFault) × (line : ℕ) × HasFault workers vertices text fault line)
+      ⊎ ((fault : ScheduleFault) × (line : ℕ) × HasScheduleFault workers vertices text fault line)
   decided text = elim (behind (pieces_of text) [] (pieces_of text) [] refl tt) [
     | inl good ↦ inl good
     | inr (fault, front, line, back, before, cut, fine, wrong) ↦ inr (

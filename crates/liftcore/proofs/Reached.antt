@@ -4,7 +4,7 @@ use Rattle.std.specs.Prelude.{IsTrue}
 use Rattle.game.specs.Game.{Game, IsGame}
 use Rattle.progress.specs.Progress.{IsProgress}
 use Rattle.progress.specs.Tables.{IsSettled}
-use Rattle.liftcore.specs.Core.{Core, is_quiet, start}
+use Rattle.liftcore.specs.Core.{Core, is_quiet, starting_core}
 use Rattle.liftcore.specs.Runs.{Comes, IsReached}
 use Rattle.liftcore.specs.Step.{Step, Steps}
 use Rattle.liftcore.specs.declared.event.Event.{Event}
@@ -21,19 +21,19 @@ steps_last a b c [] (d ∷ ds) event done s t = absurd s
 steps_last a b c (e ∷ es) [] event done s t = absurd s
 steps_last a b c (e ∷ es) (d ∷ ds) event done (k, f, r) t = (k, f, steps_last k b c es ds event done r t)
 
-pub reached_start : (g : Game) (workers : ℕ) (c : Core) → c ≡ start g workers → IsReached c
+pub reached_start : (g : Game) (workers : ℕ) (c : Core) → c ≡ starting_core g workers → IsReached c
 reached_start g workers c e = subst IsReached (sym e) (record { workers = workers; events = []; dones = []; steps = refl })
 
 pub reached_more : (old new : Core) (event : Event) (done : Bool) → IsReached old → Step old event done new → IsReached new
 reached_more old new event done r s =
-    let more = steps_last (start old.table.game r.workers) old new r.events r.dones event done r.steps s in
+    let more = steps_last (starting_core old.table.game r.workers) old new r.events r.dones event done r.steps s in
     let was = game_stays old.table.game r.workers r.events r.dones old r.steps in
     let is = game_stays old.table.game r.workers (r.events ++ event ∷ []) (r.dones ++ done ∷ []) new more in
     record {
       workers = r.workers;
       events = r.events ++ event ∷ [];
       dones = r.dones ++ done ∷ [];
-      steps = subst (λ (g : Game). Steps (start g r.workers) (r.events ++ event ∷ []) (r.dones ++ done ∷ []) new) (sym is) more;
+      steps = subst (λ (g : Game). Steps (starting_core g r.workers) (r.events ++ event ∷ []) (r.dones ++ done ∷ []) new) (sym is) more;
     }
 
 -- ---- the laws, of a state that is reached

@@ -6,7 +6,7 @@ use Rattle.progress.specs.Progress.{IsTable}
 use Rattle.progress.proofs.Lifting.{sum_above, sum_least}
 use Rattle.progress.proofs.Lists.{count_no, count_yes}
 use Rattle.progress.proofs.Settling.{plain_table, sum_limit}
-use Rattle.liftcore.specs.Core.{Core, start}
+use Rattle.liftcore.specs.Core.{Core, starting_core}
 use Rattle.liftcore.specs.Step.{RaisingSteps, Step}
 use Rattle.liftcore.specs.declared.event.Event.{Event}
 use Rattle.liftcore.proofs.Sound.{Sound, game_does, never_falls, sound_does, sound_start}
@@ -56,6 +56,6 @@ climbs g old new (v ∷ vs) (d ∷ ds) (r ∷ rs) (c, s, tells, more) h e =
     omega (arith, climbs g c new vs ds rs more k f, climbs_once g old c v d r rs s h k e f tells)
 
 pub few_raise : (g : Game) (workers : ℕ) (events : List Event) (dones rises : List Bool) (c : Core) → IsGame g
-    → RaisingSteps (start g workers) events dones rises c
+    → RaisingSteps (starting_core g workers) events dones rises c
     → count_by (λ rose. rose) rises ≤ length g.vertices * height g
-few_raise g workers events dones rises c game s = omega (arith, climbs g (start g workers) c events dones rises s (sound_start g workers game) refl)
+few_raise g workers events dones rises c game s = omega (arith, climbs g (starting_core g workers) c events dones rises s (sound_start g workers game) refl)

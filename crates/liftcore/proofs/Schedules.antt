@@ -8,7 +8,7 @@ use Rattle.std.proofs.lemmas.Slice.Zip.{AllZip-long}
 use Rattle.text.specs.Reads.{Reads}
 use Rattle.text.specs.Text.{pieces_of}
 use Rattle.text.proofs.Promised.{AreLaws, keeps}
-use Rattle.liftcore.specs.Schedule.{HasFault, HasFaultAt, IsEventLine, IsGoodLine, IsSchedule, IsOfSoMany, LineFault, vertex_of_event, worker_of_event}
+use Rattle.liftcore.specs.Schedule.{HasScheduleFault, HasScheduleFaultAt, IsEventLine, IsGoodScheduleLine, IsSchedule, IsOfSoMany, ScheduleLineFault, vertex_of_event, worker_of_event}
 use Rattle.liftcore.specs.Taken.{EventsSoFar}
 use Rattle.liftcore.specs.declared.event.Event.{Event}
 use Rattle.liftcore.specs.declared.error.ScheduleFault.{ScheduleFault}
@@ -19,8 +19,8 @@ tails : {X : Type 0} (x y : X) (xs ys : List X) → x ∷ xs ≡ y ∷ ys → (x
 tails x y xs ys e = (cc, cc)
 
 module _ (workers vertices : ℕ) where
-  pub one_schedule : (lines : List (List ℕ)) (xs ys : List Event) → AllZip (IsGoodLine workers vertices) lines xs
-      → AllZip (IsGoodLine workers vertices) lines ys → xs ≡ ys
+  pub one_schedule : (lines : List (List ℕ)) (xs ys : List Event) → AllZip (IsGoodScheduleLine workers vertices) lines xs
+      → AllZip (IsGoodScheduleLine workers vertices) lines ys → xs ≡ ys
   one_schedule [] [] [] h k = refl
   one_schedule [] [] (y ∷ ys) h k = absurd k
   one_schedule [] (x ∷ xs) ys h k = absurd h
@@ -37,7 +37,7 @@ module _ (workers vertices : ℕ) where
   not_both (Some v) h k = absurd (omega (arith, h, k))
 
   -- a good line has no fault
-  no_fault_in : (line : List ℕ) (event : Event) (fault : ScheduleFault) → IsGoodLine workers vertices line event → LineFault workers vertices line fault → ⊥
+  no_fault_in : (line : List ℕ) (event : Event) (fault : ScheduleFault) → IsGoodScheduleLine workers vertices line event → ScheduleLineFault workers vertices line fault → ⊥
   no_fault_in line event BadLine good wrong = wrong event good.spelled
   no_fault_in line event NoSuchWorker good (x, is, far) =
       let same = one_event line event x good.spelled is in
@@ -50,21 +50,21 @@ module _ (workers vertices : ℕ) where
 
   -- the event of a line among good ones
   event_at_line : (front : List (List ℕ)) (line : List ℕ) (back : List (List ℕ)) (events : List Event)
-      → AllZip (IsGoodLine workers vertices) (front ++ line ∷ back) events
-      → (event : Event) × IsGoodLine workers vertices line event
+      → AllZip (IsGoodScheduleLine workers vertices) (front ++ line ∷ back) events
+      → (event : Event) × IsGoodScheduleLine workers vertices line event
   event_at_line [] line back [] h = absurd h
   event_at_line [] line back (x ∷ events) h = (x, h.0)
   event_at_line (l ∷ front) line back [] h = absurd h
   event_at_line (l ∷ front) line back (x ∷ events) h = event_at_line front line back events h.1
 
   pub no_fault : (text : List ℕ) (events : List Event) (fault : ScheduleFault) (place : ℕ) → IsSchedule workers vertices text events
-      → HasFault workers vertices text fault place → ⊥
+      → HasScheduleFault workers vertices text fault place → ⊥
   no_fault text events fault place all faulty =
-      let at = event_at_line faulty.front faulty.line faulty.back events (subst (λ l. AllZip (IsGoodLine workers vertices) l events) faulty.cut all) in
+      let at = event_at_line faulty.front faulty.line faulty.back events (subst (λ l. AllZip (IsGoodScheduleLine workers vertices) l events) faulty.cut all) in
       no_fault_in faulty.line at.0 fault at.1 faulty.wrong
 
   -- one fault on a line
-  one_fault_in : (line : List ℕ) (f h : ScheduleFault) → LineFault workers vertices line f → LineFault workers vertices line h → f ≡ h
+  one_fault_in : (line : List ℕ) (f h : ScheduleFault) → ScheduleLineFault workers vertices line f → ScheduleLineFault workers vertices line h → f ≡ h
   one_fault_in line BadLine BadLine p q = refl
   one_fault_in line BadLine NoSuchWorker p q = absurd (p q.0 q.1)
   one_fault_in line BadLine NoSuchVertex p q = absurd (p q.0 q.1)
@@ -83,32 +83,32 @@ module _ (workers vertices : ℕ) where
 
   -- two faulty lines with good ones before them are one
   one_place : (fs gs : List (List ℕ)) (l m : List ℕ) (bs cs : List (List ℕ)) (xs ys : List Event) (f h : ScheduleFault) → fs ++ l ∷ bs ≡ gs ++ m ∷ cs
-      → AllZip (IsGoodLine workers vertices) fs xs → AllZip (IsGoodLine workers vertices) gs ys → LineFault workers vertices l f
-      → LineFault workers vertices m h → (length fs ≡ length gs) × (l ≡ m)
+      → AllZip (IsGoodScheduleLine workers vertices) fs xs → AllZip (IsGoodScheduleLine workers vertices) gs ys → ScheduleLineFault workers vertices l f
+      → ScheduleLineFault workers vertices m h → (length fs ≡ length gs) × (l ≡ m)
   one_place [] [] l m bs cs xs ys f h e good fine p q = (refl, (tails l m bs cs e).0)
   one_place [] (g ∷ gs) l m bs cs xs [] f h e good fine p q = absurd fine
   one_place [] (g ∷ gs) l m bs cs xs (y ∷ ys) f h e good fine p q =
       let same = (tails l g bs (gs ++ m ∷ cs) e).0 in
-      absurd (no_fault_in g y f fine.0 (subst (λ line. LineFault workers vertices line f) same p))
+      absurd (no_fault_in g y f fine.0 (subst (λ line. ScheduleLineFault workers vertices line f) same p))
   one_place (a ∷ fs) [] l m bs cs [] ys f h e good fine p q = absurd good
   one_place (a ∷ fs) [] l m bs cs (x ∷ xs) ys f h e good fine p q =
       let same = (tails a m (fs ++ l ∷ bs) cs e).0 in
-      absurd (no_fault_in a x h good.0 (subst (λ line. LineFault workers vertices line h) (sym same) q))
+      absurd (no_fault_in a x h good.0 (subst (λ line. ScheduleLineFault workers vertices line h) (sym same) q))
   one_place (a ∷ fs) (g ∷ gs) l m bs cs [] ys f h e good fine p q = absurd good
   one_place (a ∷ fs) (g ∷ gs) l m bs cs (x ∷ xs) [] f h e good fine p q = absurd fine
   one_place (a ∷ fs) (g ∷ gs) l m bs cs (x ∷ xs) (y ∷ ys) f h e good fine p q =
       let rest = one_place fs gs l m bs cs xs ys f h (tails a g (fs ++ l ∷ bs) (gs ++ m ∷ cs) e).1 good.1 fine.1 p q in
       (omega (arith, rest.0), rest.1)
 
-  pub one_fault : (text : List ℕ) (f h : ScheduleFault) (i j : ℕ) → HasFault workers vertices text f i → HasFault workers vertices text h j → (f ≡ h) × (i ≡ j)
+  pub one_fault : (text : List ℕ) (f h : ScheduleFault) (i j : ℕ) → HasScheduleFault workers vertices text f i → HasScheduleFault workers vertices text h j → (f ≡ h) × (i ≡ j)
   one_fault text f h i j p q =
       let place = one_place p.front q.front p.line q.line p.back q.back p.before q.before f h (sym p.cut ∙ q.cut) p.fine q.fine p.wrong q.wrong in (
-        one_fault_in p.line f h p.wrong (subst (λ line. LineFault workers vertices line h) (sym place.1) q.wrong),
+        one_fault_in p.line f h p.wrong (subst (λ line. ScheduleLineFault workers vertices line h) (sym place.1) q.wrong),
         p.here
             ∙ (ap (λ n. n + 1) place.0 ∙ sym q.here),
       )
 
-  laws : AreLaws (IsSchedule workers vertices) (IsSchedule workers vertices) (IsSchedule workers vertices) (HasFaultAt workers vertices)
+  laws : AreLaws (IsSchedule workers vertices) (IsSchedule workers vertices) (IsSchedule workers vertices) (HasScheduleFaultAt workers vertices)
   laws = record {
     one_value = λ bytes v w h k. one_schedule (pieces_of bytes) w v k h;
     no_fault = λ bytes v f h k. no_fault bytes v f.0 f.1 h k;
@@ -119,9 +119,9 @@ module _ (workers vertices : ℕ) where
   pub nothing_yet : (text : List ℕ) → EventsSoFar workers vertices text text []
   nothing_yet text = record { done = []; each = tt; cut = refl }
 
-  pub each_more : (done : List (List ℕ)) (events : List Event) (line : List ℕ) (event : Event) → AllZip (IsGoodLine workers vertices) done events
-      → IsGoodLine workers vertices line event
-      → AllZip (IsGoodLine workers vertices) (done ++ line ∷ []) (events ++ event ∷ [])
+  pub each_more : (done : List (List ℕ)) (events : List Event) (line : List ℕ) (event : Event) → AllZip (IsGoodScheduleLine workers vertices) done events
+      → IsGoodScheduleLine workers vertices line event
+      → AllZip (IsGoodScheduleLine workers vertices) (done ++ line ∷ []) (events ++ event ∷ [])
   each_more [] [] line event each one = (one, tt)
   each_more [] (x ∷ events) line event each one = absurd each
   each_more (l ∷ done) [] line event each one = absurd each
@@ -139,12 +139,12 @@ module _ (workers vertices : ℕ) where
 
   pub whole : (text left : List ℕ) (events : List Event) → EventsSoFar workers vertices text left events → pieces_of left ≡ []
       → IsSchedule workers vertices text events
-  whole text left events so none = subst (λ l. AllZip (IsGoodLine workers vertices) l events)
+  whole text left events so none = subst (λ l. AllZip (IsGoodScheduleLine workers vertices) l events)
       (sym (so.cut ∙ (ap (λ l. so.done ++ l) none ∙ append-nil so.done))) so.each
 
   pub faulty : (text left line rest : List ℕ) (events : List Event) (fault : ScheduleFault) (place : ℕ) → EventsSoFar workers vertices text left events
-      → pieces_of left ≡ line ∷ pieces_of rest → LineFault workers vertices line fault
-      → place ≡ length events + 1 → HasFault workers vertices text fault place
+      → pieces_of left ≡ line ∷ pieces_of rest → ScheduleLineFault workers vertices line fault
+      → place ≡ length events + 1 → HasScheduleFault workers vertices text fault place
   faulty text left line rest events fault place so next wrong at = record {
     front = so.done;
     line = line;
@@ -153,22 +153,22 @@ module _ (workers vertices : ℕ) where
     cut = so.cut ∙ ap (λ l. so.done ++ l) next;
     fine = so.each;
     wrong = wrong;
-    here = at ∙ ap (λ n. n + 1) (AllZip-long (IsGoodLine workers vertices) so.done events so.each);
+    here = at ∙ ap (λ n. n + 1) (AllZip-long (IsGoodScheduleLine workers vertices) so.done events so.each);
   }
 
   -- all that a reader promises
   pub promised : {E : Type 0} (name : E → Option (ScheduleFault × ℕ)) (old : Option (List ℕ)) (r : Result (Vec Event) E)
       → IfOk r (λ v. IfSome old (λ text. IsSchedule workers vertices text v.items))
-      → IfErr r (λ e. IfSome old (λ text. IfSome (name e) (HasFaultAt workers vertices text)))
-      → Reads (IsSchedule workers vertices) (IsSchedule workers vertices) (IsSchedule workers vertices) (HasFaultAt workers vertices)
+      → IfErr r (λ e. IfSome old (λ text. IfSome (name e) (HasScheduleFaultAt workers vertices text)))
+      → Reads (IsSchedule workers vertices) (IsSchedule workers vertices) (IsSchedule workers vertices) (HasScheduleFaultAt workers vertices)
       (λ (v : Vec Event). v.items) name old r
   promised name old r spells fault = keeps (IsSchedule workers vertices) (IsSchedule workers vertices) (IsSchedule workers vertices)
-      (HasFaultAt workers vertices) (λ (v : Vec Event). v.items) name laws old r spells fault
+      (HasScheduleFaultAt workers vertices) (λ (v : Vec Event). v.items) name laws old r spells fault
 
   pub refused_by : {E : Type 0} (name : E → Option (ScheduleFault × ℕ)) (old : Option (List ℕ)) (r : Result (Vec Event) E) (e : E)
-      → IsErrAnd r (λ x. x ≡ e) → IfSome old (λ text. IfSome (name e) (HasFaultAt workers vertices text))
-      → Reads (IsSchedule workers vertices) (IsSchedule workers vertices) (IsSchedule workers vertices) (HasFaultAt workers vertices)
+      → IsErrAnd r (λ x. x ≡ e) → IfSome old (λ text. IfSome (name e) (HasScheduleFaultAt workers vertices text))
+      → Reads (IsSchedule workers vertices) (IsSchedule workers vertices) (IsSchedule workers vertices) (HasScheduleFaultAt workers vertices)
       (λ (v : Vec Event). v.items) name old r
   refused_by name old (Ok v) e is fault = absurd is
   refused_by name old (Err x) e is fault =
-      promised name old (Err x) tt (subst (λ y. IfSome old (λ text. IfSome (name y) (HasFaultAt workers vertices text))) (sym is) fault)
+      promised name old (Err x) tt (subst (λ y. IfSome old (λ text. IfSome (name y) (HasScheduleFaultAt workers vertices text))) (sym is) fault)

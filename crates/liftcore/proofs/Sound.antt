@@ -9,7 +9,7 @@ use Rattle.progress.specs.Progress.{IsProgress, opening, value_at}
 use Rattle.progress.specs.Tables.{IsPlain, IsSettled, LiesBelow}
 use Rattle.progress.proofs.Measures.{at_most_itself, at_most_trans, below_at_most}
 use Rattle.progress.proofs.Plain.{opening_plain, plain_settled, set_plain}
-use Rattle.liftcore.specs.Core.{with_note, without, Core, Note, Idle, Holding, Owing, noted, owing, start}
+use Rattle.liftcore.specs.Core.{with_note, without, Core, Note, Idle, Holding, Owing, noted, owing, starting_core}
 use Rattle.game.specs.Predecessors.{predecessors}
 use Rattle.liftcore.specs.Step.{Does, LiftsHeld, Step, Steps, after_raise, value_in, with_value, with_worker}
 use Rattle.liftcore.specs.declared.event.Event.{Event}
@@ -61,8 +61,8 @@ game_does g old new (Read w t) d e = ap (λ (c : Core). c.table.game) d.effect �
 game_does g old new (Push w t) d e = ap (λ (c : Core). c.table.game) d.effect ∙ e
 game_does g old new (Raise w) d e = ap (λ (c : Core). c.table.game) d.effect ∙ raise_cases (λ c. c.table.game ≡ g) old w d.u d.lifted (λ i. e) (λ i. e)
 
-pub game_stays : (g : Game) (workers : ℕ) (events : List Event) (dones : List Bool) (c : Core) → Steps (start g workers) events dones c → c.table.game ≡ g
-game_stays g workers events dones c s = steps_keep (λ k. k.table.game ≡ g) (game_does g) (start g workers) c events dones s refl
+pub game_stays : (g : Game) (workers : ℕ) (events : List Event) (dones : List Bool) (c : Core) → Steps (starting_core g workers) events dones c → c.table.game ≡ g
+game_stays g workers events dones c s = steps_keep (λ k. k.table.game ≡ g) (game_does g) (starting_core g workers) c events dones s refl
 
 -- ---- values stay below
 
@@ -132,17 +132,17 @@ sound_does old new (Raise w) d s = subst Sound (sym d.effect) (raise_cases Sound
       ];
     }))
 
-pub sound_start : (g : Game) (workers : ℕ) → IsGame g → Sound (start g workers)
+pub sound_start : (g : Game) (workers : ℕ) → IsGame g → Sound (starting_core g workers)
 sound_start g workers game = record {
   plain = opening_plain g (opening g) game refl;
   low = λ k u notes e t m n. absurd (idle_holds u notes (start_idle workers k (Holding u notes) e));
 }
 
-pub stays_below : (g : Game) (workers : ℕ) (events : List Event) (dones : List Bool) (c : Core) → IsGame g → Steps (start g workers) events dones c
+pub stays_below : (g : Game) (workers : ℕ) (events : List Event) (dones : List Bool) (c : Core) → IsGame g → Steps (starting_core g workers) events dones c
     → IsPlain c.table
-stays_below g workers events dones c game s = (steps_keep Sound sound_does (start g workers) c events dones s (sound_start g workers game)).plain
+stays_below g workers events dones c game s = (steps_keep Sound sound_does (starting_core g workers) c events dones s (sound_start g workers game)).plain
 
-pub settled_is_least : (g : Game) (workers : ℕ) (events : List Event) (dones : List Bool) (c : Core) → IsGame g → Steps (start g workers) events dones c
+pub settled_is_least : (g : Game) (workers : ℕ) (events : List Event) (dones : List Bool) (c : Core) → IsGame g → Steps (starting_core g workers) events dones c
     → IsProgress g c.table.values → IsSettled c.table
 settled_is_least g workers events dones c game s is =
     plain_settled c.table (stays_below g workers events dones c game s)

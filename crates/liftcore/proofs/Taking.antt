@@ -12,7 +12,7 @@ use Rattle.text.specs.Lines.{IfKnown}
 use Rattle.text.specs.Text.{pieces_of}
 use Rattle.text.proofs.Streaming.{known_then}
 use Rattle.liftcore.specs.Begun.{IsBegunLine}
-use Rattle.liftcore.specs.Schedule.{HasFaultAt, IsSchedule, named, told}
+use Rattle.liftcore.specs.Schedule.{HasScheduleFaultAt, IsSchedule, schedule_fault_of, reader_fault_of}
 use Rattle.liftcore.specs.Taken.{HasTakenLines, EventsSoFar, TakesBytes, TakesBlock, Tells, TellsRead}
 use Rattle.liftcore.specs.declared.error.ScheduleError.{ScheduleError}
 use Rattle.liftcore.specs.declared.error.ReadError.{ReadError}
@@ -31,7 +31,7 @@ Ends old new = (line text left rest : List ℕ) → IsBegunLine line old.line.wo
 abbrev pub Fails : Intake → ScheduleError → Type 0
 Fails old error = (line text left rest : List ℕ) → IsBegunLine line old.line.word.items old.line.part
     → EventsSoFar old.workers old.vertices text left old.events.items → pieces_of left ≡ line ∷ pieces_of rest
-    → IfSome (named error) (HasFaultAt old.workers old.vertices text)
+    → IfSome (schedule_fault_of error) (HasScheduleFaultAt old.workers old.vertices text)
 
 pub both_ok : {T E : Type 0} {P Q R : Type 0} (r : Result T E) → OnOk r P → OnOk r Q → (P → Q → R) → OnOk r R
 both_ok (Ok x) p q both = both p q
@@ -62,7 +62,7 @@ end_taken old new (few, small) fresh ends = λ workers vertices text left h.
 
 pub end_tells : (old : Intake) (error : ScheduleError) → Fails old error → Tells (10 ∷ []) old error
 end_tells old error fails = λ workers vertices text left h.
-    moved (λ m n. IfSome (named error) (HasFaultAt m n text)) old.workers old.vertices workers vertices h.few h.small
+    moved (λ m n. IfSome (schedule_fault_of error) (HasScheduleFaultAt m n text)) old.workers old.vertices workers vertices h.few h.small
     (fails h.begun text (h.begun ++ 10 ∷ left) left h.line (so_far_of workers vertices text (10 ∷ left) old h) (up_to_end h.begun left h.inside))
 
 inside_more : (bytes : List ℕ) (b : ℕ) → list_any (λ b. b == 10) bytes ≡ false → (b == 10) ≡ false → list_any (λ b. b == 10) (bytes ++ b ∷ []) ≡ false
@@ -131,7 +131,7 @@ whole_taken workers vertices text old new begins takes =
     takes workers vertices text [] (subst (λ l. HasTakenLines workers vertices text l old) (sym (append-nil text)) begins)
 
 pub whole_tells : (workers vertices : ℕ) (text : List ℕ) (old : Intake) (error : ScheduleError) → HasTakenLines workers vertices text text old
-    → Tells text old error → IfSome (named error) (HasFaultAt workers vertices text)
+    → Tells text old error → IfSome (schedule_fault_of error) (HasScheduleFaultAt workers vertices text)
 whole_tells workers vertices text old error begins tells =
     tells workers vertices text [] (subst (λ l. HasTakenLines workers vertices text l old) (sym (append-nil text)) begins)
 
@@ -155,9 +155,9 @@ last_finished workers vertices text old new some ends h =
     (ends h.begun text (h.begun ++ []) [] h.line (so_far_of workers vertices text [] old h) (last_is h.begun h.inside (some h.begun h.line)))) refl
 
 pub last_tells : (old : Intake) (error : ScheduleError) → ((line : List ℕ) → IsBegunLine line old.line.word.items old.line.part → line ≢ []) → Fails old error
-    → (workers vertices : ℕ) (text : List ℕ) → HasTakenLines workers vertices text [] old → IfSome (named error) (HasFaultAt workers vertices text)
+    → (workers vertices : ℕ) (text : List ℕ) → HasTakenLines workers vertices text [] old → IfSome (schedule_fault_of error) (HasScheduleFaultAt workers vertices text)
 last_tells old error some fails = λ workers vertices text h.
-    moved (λ m n. IfSome (named error) (HasFaultAt m n text)) old.workers old.vertices workers vertices h.few h.small
+    moved (λ m n. IfSome (schedule_fault_of error) (HasScheduleFaultAt m n text)) old.workers old.vertices workers vertices h.few h.small
     (fails h.begun text (h.begun ++ []) [] h.line (so_far_of workers vertices text [] old h) (last_is h.begun h.inside (some h.begun h.line)))
 
 -- ---- blocks of a reader
@@ -219,7 +219,7 @@ all_events None before after events all is = tt
 all_events (Some left) before after events all is = λ workers vertices text h. is workers vertices text (all workers vertices text h)
 
 pub all_tells : (old : Option (List ℕ)) (before after : Intake) (error : ScheduleError) → IfSome old (IsAll before after)
-    → ((workers vertices : ℕ) (text : List ℕ) → HasTakenLines workers vertices text [] after → IfSome (named error) (HasFaultAt workers vertices text))
+    → ((workers vertices : ℕ) (text : List ℕ) → HasTakenLines workers vertices text [] after → IfSome (schedule_fault_of error) (HasScheduleFaultAt workers vertices text))
     → TellsRead old before (read.Schedule error)
 all_tells None before after error all is = tt
 all_tells (Some left) before after error all is = λ workers vertices text h. is workers vertices text (all workers vertices text h)
@@ -243,7 +243,7 @@ read_events workers vertices (Some text) intake (Ok v) begins is = is workers ve
 
 pub read_tells : (workers vertices : ℕ) (old : Option (List ℕ)) (intake : Intake) (r : Result (Vec Event) ReadError)
     → ((text : List ℕ) → HasTakenLines workers vertices text text intake) → IfErr r (TellsRead old intake)
-    → IfErr r (λ e. IfSome old (λ text. IfSome (told e) (HasFaultAt workers vertices text)))
+    → IfErr r (λ e. IfSome old (λ text. IfSome (reader_fault_of e) (HasScheduleFaultAt workers vertices text)))
 read_tells workers vertices old intake (Ok v) begins is = tt
 read_tells workers vertices None intake (Err e) begins is = tt
 read_tells workers vertices (Some text) intake (Err e) begins is = is workers vertices text (begins text)

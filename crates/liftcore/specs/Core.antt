@@ -24,8 +24,8 @@ pub record Core : Type 0 where
   pub workers : List Worker
 
 -- the opening table, each vertex pending and each worker idle
-abbrev pub start : Game → ℕ → Core
-start g workers = record {
+abbrev pub starting_core : Game → ℕ → Core
+starting_core g workers = record {
   table = record { game = g; values = opening g };
   pending = range_with_len 0 (length g.vertices);
   workers = replicate workers Idle;

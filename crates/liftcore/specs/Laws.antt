@@ -5,8 +5,8 @@ use Rattle.progress.specs.Lifting.{height}
 use Rattle.progress.specs.Measure.{IsAtMost}
 use Rattle.progress.specs.Progress.{IsProgress}
 use Rattle.progress.specs.Tables.{IsPlain, IsSettled}
-use Rattle.liftcore.specs.Core.{Core, start, is_quiet}
-use Rattle.liftcore.specs.Schedule.{HasFault, IsSchedule}
+use Rattle.liftcore.specs.Core.{Core, starting_core, is_quiet}
+use Rattle.liftcore.specs.Schedule.{HasScheduleFault, IsSchedule}
 use Rattle.liftcore.specs.Step.{RaisingSteps, Step, Steps, value_in}
 use Rattle.liftcore.specs.declared.error.ScheduleFault.{ScheduleFault}
 use Rattle.liftcore.specs.declared.event.Event.{Event}
@@ -21,25 +21,25 @@ NeverFalls = (old new : Core) (event : Event) (done : Bool) → Step old event d
 
 -- Every value stays below, whatever the events.
 abbrev pub StaysBelow : Type 0
-StaysBelow = (g : Game) (workers : ℕ) (events : List Event) (dones : List Bool) (c : Core) → IsGame g → Steps (start g workers) events dones c → IsPlain c.table
+StaysBelow = (g : Game) (workers : ℕ) (events : List Event) (dones : List Bool) (c : Core) → IsGame g → Steps (starting_core g workers) events dones c → IsPlain c.table
 
 -- Where the table is settled it is the least progress table.
 abbrev pub SettledIsLeast : Type 0
 SettledIsLeast =
-    (g : Game) (workers : ℕ) (events : List Event) (dones : List Bool) (c : Core) → IsGame g → Steps (start g workers) events dones c
+    (g : Game) (workers : ℕ) (events : List Event) (dones : List Bool) (c : Core) → IsGame g → Steps (starting_core g workers) events dones c
     → IsProgress g c.table.values
     → IsSettled c.table
 
 -- A quiet core is settled.
 abbrev pub QuietIsSettled : Type 0
 QuietIsSettled =
-    (g : Game) (workers : ℕ) (events : List Event) (dones : List Bool) (c : Core) → IsGame g → Steps (start g workers) events dones c → IsTrue (is_quiet c)
+    (g : Game) (workers : ℕ) (events : List Event) (dones : List Bool) (c : Core) → IsGame g → Steps (starting_core g workers) events dones c → IsTrue (is_quiet c)
     → IsProgress g c.table.values
 
 -- At most as many events raise the table as top's rank times the vertices.
 abbrev pub FewRaise : Type 0
 FewRaise =
-    (g : Game) (workers : ℕ) (events : List Event) (dones rises : List Bool) (c : Core) → IsGame g → RaisingSteps (start g workers) events dones rises c
+    (g : Game) (workers : ℕ) (events : List Event) (dones rises : List Bool) (c : Core) → IsGame g → RaisingSteps (starting_core g workers) events dones rises c
     → count_by (λ rose. rose) rises ≤ length g.vertices * height g
 
 -- A text spells at most one schedule for so many workers and vertices.
@@ -47,15 +47,15 @@ abbrev pub OneSchedule : Type 0
 OneSchedule = (workers vertices : ℕ) (text : List ℕ) (es fs : List Event) → IsSchedule workers vertices text es → IsSchedule workers vertices text fs → es ≡ fs
 
 -- A text that spells a schedule has no deciding fault, and each text has one at most, at one line.
-abbrev pub NoFault : Type 0
-NoFault = (workers vertices : ℕ) (text : List ℕ) (events : List Event) (fault : ScheduleFault) (line : ℕ) → IsSchedule workers vertices text events
-    → HasFault workers vertices text fault line → ⊥
+abbrev pub NoScheduleFault : Type 0
+NoScheduleFault = (workers vertices : ℕ) (text : List ℕ) (events : List Event) (fault : ScheduleFault) (line : ℕ) → IsSchedule workers vertices text events
+    → HasScheduleFault workers vertices text fault line → ⊥
 
-abbrev pub OneFault : Type 0
-OneFault = (workers vertices : ℕ) (text : List ℕ) (a b : ScheduleFault) (i j : ℕ) → HasFault workers vertices text a i → HasFault workers vertices text b j
+abbrev pub OneScheduleFault : Type 0
+OneScheduleFault = (workers vertices : ℕ) (text : List ℕ) (a b : ScheduleFault) (i j : ℕ) → HasScheduleFault workers vertices text a i → HasScheduleFault workers vertices text b j
     → (a ≡ b) × (i ≡ j)
 
 -- A text spells a schedule, or a fault decides.
-abbrev pub Decided : Type 0
-Decided = (workers vertices : ℕ) (text : List ℕ) → ((events : List Event) × IsSchedule workers vertices text events)
-    ⊎ ((fault : ScheduleFault) × (line : ℕ) × HasFault workers vertices text fault line)
+abbrev pub ScheduleIsDecided : Type 0
+ScheduleIsDecided = (workers vertices : ℕ) (text : List ℕ) → ((events : List Event) × IsSchedule workers vertices text events)
+    ⊎ ((fault : ScheduleFault) × (line : ℕ) × HasScheduleFault workers vertices text fault line)

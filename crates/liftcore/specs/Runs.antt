@@ -1,6 +1,6 @@
 -- What a run of events leaves.
 use Rattle.std.specs.Prelude.{◌≡◌, ℕ, Bool, true, false, List, count_by, not}
-use Rattle.liftcore.specs.Core.{Core, start}
+use Rattle.liftcore.specs.Core.{Core, starting_core}
 use Rattle.liftcore.specs.Step.{Steps}
 use Rattle.liftcore.specs.declared.event.Event.{Event}
 use Rattle.liftcore.specs.declared.event.Outcome.{Outcome}
@@ -22,4 +22,4 @@ pub record IsReached (c : Core) : Type 0 where
   pub workers : ℕ
   pub events : List Event
   pub dones : List Bool
-  pub steps : Steps (start c.table.game workers) events dones c
+  pub steps : Steps (starting_core c.table.game workers) events dones c

@@ -41,45 +41,45 @@ pub record IsOfSoMany (workers vertices : ℕ) (event : Event) : Type 0 where
   pub vertex : IfSome (vertex_of_event event) (λ v. v < vertices)
 
 -- the line spells an event of so many workers and vertices
-pub record IsGoodLine (workers vertices : ℕ) (line : List ℕ) (event : Event) : Type 0 where
+pub record IsGoodScheduleLine (workers vertices : ℕ) (line : List ℕ) (event : Event) : Type 0 where
   pub spelled : IsEventLine line event
   pub within : IsOfSoMany workers vertices event
 
 -- An event a line. Lines end by LF, the last end may be missing, and a CR is a byte like any other.
 abbrev pub IsSchedule : (workers vertices : ℕ) → (text : List ℕ) → List Event → Type 0
-IsSchedule workers vertices text events = AllZip (IsGoodLine workers vertices) (pieces_of text) events
+IsSchedule workers vertices text events = AllZip (IsGoodScheduleLine workers vertices) (pieces_of text) events
 
 -- what is wrong with a line: its shape decides first, then the worker, then the vertex
-abbrev pub LineFault : (workers vertices : ℕ) → List ℕ → ScheduleFault → Type 0
-LineFault workers vertices line BadLine = (event : Event) → IsEventLine line event → ⊥
-LineFault workers vertices line NoSuchWorker = (event : Event) × IsEventLine line event × (workers ≤ worker_of_event event)
-LineFault workers vertices line NoSuchVertex =
+abbrev pub ScheduleLineFault : (workers vertices : ℕ) → List ℕ → ScheduleFault → Type 0
+ScheduleLineFault workers vertices line BadLine = (event : Event) → IsEventLine line event → ⊥
+ScheduleLineFault workers vertices line NoSuchWorker = (event : Event) × IsEventLine line event × (workers ≤ worker_of_event event)
+ScheduleLineFault workers vertices line NoSuchVertex =
     (event : Event) × IsEventLine line event × (worker_of_event event < workers) × IsSomeAnd (vertex_of_event event) (λ v. vertices ≤ v)
 
 -- the first faulty line's fault, and the line, from 1
-pub record HasFault (workers vertices : ℕ) (text : List ℕ) (fault : ScheduleFault) (place : ℕ) : Type 0 where
+pub record HasScheduleFault (workers vertices : ℕ) (text : List ℕ) (fault : ScheduleFault) (place : ℕ) : Type 0 where
   pub front : List (List ℕ)
   pub line : List ℕ
   pub back : List (List ℕ)
   pub before : List Event
   pub cut : pieces_of text ≡ front ++ line ∷ back
-  pub fine : AllZip (IsGoodLine workers vertices) front before
-  pub wrong : LineFault workers vertices line fault
+  pub fine : AllZip (IsGoodScheduleLine workers vertices) front before
+  pub wrong : ScheduleLineFault workers vertices line fault
   pub here : place ≡ length front + 1
 
 -- the same of the fault with its line
-abbrev pub HasFaultAt : (workers vertices : ℕ) → List ℕ → ScheduleFault × ℕ → Type 0
-HasFaultAt workers vertices text told = HasFault workers vertices text told.0 told.1
+abbrev pub HasScheduleFaultAt : (workers vertices : ℕ) → List ℕ → ScheduleFault × ℕ → Type 0
+HasScheduleFaultAt workers vertices text told = HasScheduleFault workers vertices text told.0 told.1
 
 -- the fault that an error tells, and its line: none for want of memory
-abbrev pub named : ScheduleError → Option (ScheduleFault × ℕ)
-named (Fault fault line) = Some (fault, line)
-named Memory = None
+abbrev pub schedule_fault_of : ScheduleError → Option (ScheduleFault × ℕ)
+schedule_fault_of (Fault fault line) = Some (fault, line)
+schedule_fault_of Memory = None
 
 -- the same of an error of a reader: none for a failed read either
-abbrev pub told : ReadError → Option (ScheduleFault × ℕ)
-told (read.Schedule error) = named error
-told (read.Read fault) = None
+abbrev pub reader_fault_of : ReadError → Option (ScheduleFault × ℕ)
+reader_fault_of (read.Schedule error) = schedule_fault_of error
+reader_fault_of (read.Read fault) = None
 
 -- that a read failed
 abbrev pub failed : ReadError

@@ -3,7 +3,7 @@ use Rattle.std.specs.Prelude.{◌≡◌, ℕ, Bool, false, List, [], ◌++◌, �
 use Rattle.std.specs.List.{AllZip, list_any}
 use Rattle.text.specs.Text.{pieces_of}
 use Rattle.liftcore.specs.Begun.{IsBegunLine}
-use Rattle.liftcore.specs.Schedule.{HasFaultAt, IsGoodLine, named, told}
+use Rattle.liftcore.specs.Schedule.{HasScheduleFaultAt, IsGoodScheduleLine, schedule_fault_of, reader_fault_of}
 use Rattle.liftcore.specs.declared.event.Event.{Event}
 use Rattle.liftcore.specs.declared.error.ScheduleError.{ScheduleError}
 use Rattle.liftcore.specs.declared.error.ReadError.{ReadError}
@@ -12,7 +12,7 @@ use Rattle.liftcore.specs.declared.schedule.Intake.{Intake}
 -- the first lines of a text, which spell these events, where this is left
 pub record EventsSoFar (workers vertices : ℕ) (text left : List ℕ) (events : List Event) : Type 0 where
   pub done : List (List ℕ)
-  pub each : AllZip (IsGoodLine workers vertices) done events
+  pub each : AllZip (IsGoodScheduleLine workers vertices) done events
   pub cut : pieces_of text ≡ done ++ pieces_of left
 
 -- Of the text this is left, behind whole lines and a line that has begun.
@@ -31,7 +31,7 @@ TakesBytes bytes old new = (workers vertices : ℕ) (text left : List ℕ) → H
 -- the fault that is told, if one is, decides a text in which these bytes are next
 abbrev pub Tells : List ℕ → Intake → ScheduleError → Type 0
 Tells bytes old error =
-    (workers vertices : ℕ) (text left : List ℕ) → HasTakenLines workers vertices text (bytes ++ left) old → IfSome (named error) (HasFaultAt workers vertices text)
+    (workers vertices : ℕ) (text left : List ℕ) → HasTakenLines workers vertices text (bytes ++ left) old → IfSome (schedule_fault_of error) (HasScheduleFaultAt workers vertices text)
 
 -- All bytes at hand are taken: some, or none where no more follow, unless there may be more.
 abbrev pub TakesBlock : Intake → Intake → Bool → List ℕ → List ℕ → Type 0
@@ -41,4 +41,4 @@ TakesBlock old new more left rest =
 -- the fault that is told, if one is, decides a text of which a reader has the rest
 abbrev pub TellsRead : Option (List ℕ) → Intake → ReadError → Type 0
 TellsRead known old error = IfSome known (λ left. (workers vertices : ℕ) (text : List ℕ) → HasTakenLines workers vertices text left old
-    → IfSome (told error) (HasFaultAt workers vertices text))
+    → IfSome (reader_fault_of error) (HasScheduleFaultAt workers vertices text))

@@ -1,11 +1,11 @@
 // What holds of all runs of the core, and of all texts of schedules.
 
 ghost use Rattle.liftcore.specs.Laws.{
-  Decided,
+  ScheduleIsDecided,
   FewRaise,
   NeverFalls,
-  NoFault,
-  OneFault,
+  NoScheduleFault,
+  OneScheduleFault,
   OneSchedule,
   OneStep,
   QuietIsSettled,
@@ -49,16 +49,16 @@ pub fn one_schedule()
 {}
 
 /// A text that spells a schedule has no deciding fault.
-pub fn no_fault()
-    ensures { NoFault }
+pub fn no_schedule_fault()
+    ensures { NoScheduleFault }
 {}
 
 /// A text has at most one deciding fault, at one line.
-pub fn one_fault()
-    ensures { OneFault }
+pub fn one_schedule_fault()
+    ensures { OneScheduleFault }
 {}
 
 /// A text spells a schedule, or a fault decides: with the laws above, one of the two and just one of its kind.
-pub fn decided()
-    ensures { Decided }
+pub fn schedule_is_decided()
+    ensures { ScheduleIsDecided }
 {}

@@ -1,7 +1,7 @@
 // The machine over events.
 
 ghost use Rattle.std.specs.Prelude.{◌≡◌, ◌<◌, ◌+◌, ◌↔◌, ℕ, Contains, IfOk, IsTrue, length};
-ghost use Rattle.liftcore.specs.Core.{is_quiet as is_quiet_core, start};
+ghost use Rattle.liftcore.specs.Core.{is_quiet as is_quiet_core, starting_core};
 ghost use Rattle.liftcore.specs.Marks.{members};
 ghost use Rattle.liftcore.specs.Runs.{Comes, is_done};
 ghost use Rattle.liftcore.specs.Step.{Step};
@@ -44,7 +44,7 @@ impl<'a> Core<'a> {
     /// # Errors
     /// S4 where memory is refused.
     pub fn new(alloc: Global, game: &'a Game, workers: usize) -> Result<Self, CoreError>
-        ensures { IfOk result (λ c. c ≡ start game.now workers) }
+        ensures { IfOk result (λ c. c ≡ starting_core game.now workers) }
     {
         Ok(Core {
             game,
@@ -146,7 +146,7 @@ pub fn run<'a>(
     workers: usize,
     events: &[Event],
 ) -> Result<Core<'a>, CoreError>
-    ensures { IfOk result (λ c. (done : ℕ) × (skipped : ℕ) × Comes (start game.now workers) events.now done skipped c) }
+    ensures { IfOk result (λ c. (done : ℕ) × (skipped : ℕ) × Comes (starting_core game.now workers) events.now done skipped c) }
 {
     let mut core = Core::new(alloc, game, workers)?;
     core.follow(events);

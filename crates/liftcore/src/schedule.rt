@@ -8,7 +8,7 @@ ghost use Rattle.text.specs.Text.{pieces_of};
 ghost use Rattle.text.specs.Tokens as token;
 ghost use Rattle.liftcore.specs.Begun.{IsBegunLine};
 ghost use Rattle.liftcore.specs.Scan as at;
-ghost use Rattle.liftcore.specs.Schedule.{HasFaultAt, IsEventLine, IsSchedule, IsOfSoMany, LineFault, named, told, vertex_of_event, worker_of_event, failed};
+ghost use Rattle.liftcore.specs.Schedule.{HasScheduleFaultAt, IsEventLine, IsSchedule, IsOfSoMany, ScheduleLineFault, schedule_fault_of, reader_fault_of, vertex_of_event, worker_of_event, failed};
 ghost use Rattle.liftcore.specs.Taken.{HasTakenLines, EventsSoFar, TakesBytes, TakesBlock, Tells, TellsRead};
 
 use crate::error::{ReadError, ScheduleError, ScheduleFault};
@@ -45,7 +45,7 @@ fn is_far(event: Event, vertices: u32) -> bool
 // The event of a line, if it has one, where its worker and its vertex are among so many.
 fn judged(event: Option<Event>, workers: u32, vertices: u32) -> Result<Event, ScheduleFault>
     ensures { (line : List ℕ) → at.event_at token.whole_number line ≡ event
-        → MatchResult result (λ event. IsEventLine line event × IsOfSoMany workers vertices event) (LineFault workers vertices line) }
+        → MatchResult result (λ event. IsEventLine line event × IsOfSoMany workers vertices event) (ScheduleLineFault workers vertices line) }
 {
     let Some(event) = event else {
         return Err(ScheduleFault::BadLine);
@@ -90,7 +90,7 @@ impl Intake {
             → EventsSoFar self.old.workers self.old.vertices text rest self.new.events.items) }
         ensures fault { IfErr result (λ e. (line text left rest : List ℕ) → IsBegunLine line self.old.line.word.items self.old.line.part
             → EventsSoFar self.old.workers self.old.vertices text left self.old.events.items → pieces_of left ≡ line ∷ pieces_of rest
-            → IfSome (named e) (HasFaultAt self.old.workers self.old.vertices text)) }
+            → IfSome (schedule_fault_of e) (HasScheduleFaultAt self.old.workers self.old.vertices text)) }
     {
         match judged(self.line.event(), self.workers, self.vertices) {
             Ok(event) => {
@@ -135,7 +135,7 @@ impl Intake {
         ensures events { IfOk result (λ events. (workers vertices : ℕ) (text : List ℕ) → HasTakenLines workers vertices text [] self
             → IsSchedule workers vertices text events.items) }
         ensures fault { IfErr result (λ e. (workers vertices : ℕ) (text : List ℕ) → HasTakenLines workers vertices text [] self
-            → IfSome (named e) (HasFaultAt workers vertices text)) }
+            → IfSome (schedule_fault_of e) (HasScheduleFaultAt workers vertices text)) }
     {
         if self.line.is_empty() {
             return Ok(self.events);
@@ -158,8 +158,8 @@ pub fn read_schedule(
     workers: u32,
     vertices: u32,
 ) -> Result<Vec<Event>, ScheduleError>
-    ensures reads { Reads (IsSchedule workers vertices) (IsSchedule workers vertices) (IsSchedule workers vertices) (HasFaultAt workers vertices)
-        (λ v. v.items) named (Some text.now) result }
+    ensures reads { Reads (IsSchedule workers vertices) (IsSchedule workers vertices) (IsSchedule workers vertices) (HasScheduleFaultAt workers vertices)
+        (λ v. v.items) schedule_fault_of (Some text.now) result }
 {
     let mut intake = Intake::new(alloc, workers, vertices);
     intake.take_all(text)?;
@@ -208,8 +208,8 @@ pub fn read_schedule_from<R: Source + Drop>(
     workers: u32,
     vertices: u32,
 ) -> Result<Vec<Event>, ReadError>
-    ensures reads { Reads (IsSchedule workers vertices) (IsSchedule workers vertices) (IsSchedule workers vertices) (HasFaultAt workers vertices)
-        (λ v. v.items) told (R.remaining reader) result }
+    ensures reads { Reads (IsSchedule workers vertices) (IsSchedule workers vertices) (IsSchedule workers vertices) (HasScheduleFaultAt workers vertices)
+        (λ v. v.items) reader_fault_of (R.remaining reader) result }
     ensures cause { IfErr result (HasCause R.can_fail failed) }
 {
     let Ok(mut blocks) = blocks_of(alloc, reader) else {

@@ -1,7 +1,7 @@
 // The state of several workers, and the four events.
 
 ghost use Rattle.std.specs.Prelude.{◌≡◌, ◌↔◌, ℕ, IfOk, IsTrue, MatchOption};
-ghost use Rattle.liftcore.specs.Core.{Idle, is_quiet as is_quiet_core, start};
+ghost use Rattle.liftcore.specs.Core.{Idle, is_quiet as is_quiet_core, starting_core};
 ghost use Rattle.liftcore.specs.Seats.{AreIdle, HasSeat, IsState, core_of, worker_of};
 ghost use Rattle.liftcore.specs.Step.{Step};
 ghost use Rattle.liftcore.specs.Work.{CanRaise, CanRead, IsUnread, Owes};
@@ -40,7 +40,7 @@ impl State {
     /// The state at the start, with the memory for all events.
     pub(crate) fn new(alloc: Global, game: &Game, workers: usize) -> Result<Self, CoreError>
         ensures state { IfOk result (λ s. IsState game.now s) }
-        ensures start { IfOk result (λ s. core_of s ≡ start game.now workers) }
+        ensures start { IfOk result (λ s. core_of s ≡ starting_core game.now workers) }
     {
         Ok(State {
             table: opening(alloc, game)?,

@@ -14,7 +14,7 @@ use Rattle.std.proofs.lemmas.Slice.Eq.{bytes_eq-Decides}
 use Rattle.text.specs.Text.{is_digit, is_numeral, value_of}
 use Rattle.text.specs.Lines.{IfKnown}
 use Rattle.text.specs.Tokens.{is_other}
-use Rattle.text.specs.Stream.{line_of, below, is_inside}
+use Rattle.text.specs.Stream.{line_of, after_line, is_inside}
 use Rattle.text.proofs.Spaced.{numeral_digits}
 use Rattle.text.proofs.Scanning.{run_passes, none_other, HasNumber}
 use Rattle.text.proofs.Streaming.{known_only, front_all, line_run, all_of, inside_of}
@@ -23,7 +23,7 @@ use Rattle.systems.specs.System.{Arrow}
 use Rattle.lts.specs.Aut.{IsTransition}
 use Rattle.systems.specs.declared.limits.TheConstants.{LONGEST_LABEL}
 use Rattle.lts.specs.Scan.{transition_at, PassesTransition}
-use Rattle.lts.specs.Plain.{is_inner, plain_text, IsPlainThen, PassesAtHand}
+use Rattle.lts.specs.Plain.{is_inner, plain_text, IsPlainThen, PassesAutAtHand}
 use Rattle.lts.proofs.Scanning.{transition_finds}
 
 -- ---- the parts
@@ -147,7 +147,7 @@ plain_passes s t label text left more p =
     let (piece, under) = line_run line (10 ∷ (left ++ more)) (all_inside p.from label p.to p.from-numeral p.to-numeral p.inner) in
     let first : line_of (text ++ more) ≡ line = ap line_of split ∙ piece ∙ append-nil line in
     let found = transition_finds line (arrow (value_of p.from) label (value_of p.to)) (spells p.from label p.to p.from-numeral p.to-numeral p.inner) in
-    (label, ap transition_at first ∙ found ∙ rw (p.from-is, p.to-is) refl, sym (ap below split ∙ under), refl)
+    (label, ap transition_at first ∙ found ∙ rw (p.from-is, p.to-is) refl, sym (ap after_line split ∙ under), refl)
 
 -- ---- the block at hand
 
@@ -155,9 +155,9 @@ pub at_hand_is : (kept block label : List ℕ) (s t n : ℕ) (old mid new : Opti
     → Keeps old mid
     → IfSome old (λ _. IfSome limit (λ n. length block ≤ n)) → DropsConsumable mid new limit n → n ≤ length block
     → IsPlainThen s label t block (drop n block) → kept ≡ take (LONGEST_LABEL + 1) label
-    → IfKnown old new (PassesAtHand kept (Some (record { source = s; target = t })))
+    → IfKnown old new (PassesAutAtHand kept (Some (record { source = s; target = t })))
 at_hand_is kept block label s t n old mid new limit front same fits drops within plain is =
-    known_only {P = TakesOff block n} {Q = PassesAtHand kept (Some (record { source = s; target = t }))} old new
+    known_only {P = TakesOff block n} {Q = PassesAutAtHand kept (Some (record { source = s; target = t }))} old new
     (taken_off block n old mid new limit front same fits drops within)
     (λ text left (more, whole, rest).
     rw (whole, rest, is) (plain_passes s t label block (drop n block) more plain))

@@ -12,7 +12,7 @@ use Rattle.systems.specs.declared.limits.TheConstants.{MOST_TRANSITIONS, MOST_ST
 use Rattle.systems.specs.Label.{is_label, is_label_byte}
 use Rattle.systems.specs.System.{Arrow, System, IsArrow, IsSystem}
 use Rattle.systems.specs.Numbered.{Numbered, arrow_of, system_with}
-use Rattle.lts.specs.Aut.{IsAut, IsHeader, IsTransition}
+use Rattle.lts.specs.Aut.{IsAut, IsAutHeader, IsTransition}
 use Rattle.lts.specs.Canon.{arrow_line, header_line, aut_text, arrow_line_at, arrow_line_of}
 use Rattle.systems.specs.declared.system.Transition.{Transition}
 use Rattle.std.proofs.lemmas.Bool.{and_parts}
@@ -45,7 +45,7 @@ header_body_is i m n rest = ap (λ l. (codes "des " ++ l) ++ rest) (over_rest (h
 header_plain : (i m n : ℕ) → i < 2 ^ 64 → m < 2 ^ 64 → n < 2 ^ 64 → list_all plain (header_body i m n) ≡ true
 header_plain i m n hi hm hn = over_plain (header_tokens i m n) (refl, (number_plain i hi, (refl, (number_plain m hm, (refl, (number_plain n hn, (refl, tt)))))))
 
-header_is : (i m n : ℕ) → i < 2 ^ 64 → m < 2 ^ 64 → n < 2 ^ 64 → IsHeader (header_body i m n) i m n
+header_is : (i m n : ℕ) → i < 2 ^ 64 → m < 2 ^ 64 → n < 2 ^ 64 → IsAutHeader (header_body i m n) i m n
 header_is i m n hi hm hn = (
   decimal i,
   decimal m,
@@ -154,7 +154,7 @@ canon_spells l h few =
       cut = ap lines (header_body_is l.initial count l.states rest)
           ∙ first_line body rest (header_plain l.initial count l.states (omega (arith, h.initial, h.limit)) (omega arith) (omega (arith, h.limit)))
           ∙ ap (λ x. body ∷ x) bodies.0;
-      header = subst (λ m. IsHeader body l.initial m l.states) (sym same)
+      header = subst (λ m. IsAutHeader body l.initial m l.states) (sym same)
           (header_is l.initial count l.states (omega (arith, h.initial, h.limit)) (omega arith) (omega (arith, h.limit)));
       each = bodies.1;
       set = h.set;

@@ -11,7 +11,7 @@ use Rattle.lts.specs.declared.error.AutFault.TheVariants.{BadHeader, BadLine, Ov
 use Rattle.lts.specs.declared.scan.Announced.{Announced}
 use Rattle.systems.specs.Label.{is_label}
 use Rattle.systems.specs.System.{Arrow, System, IsArrow, set_of}
-use Rattle.lts.specs.Aut.{IsAut, IsHeader, IsTransition, IsGoodLine, LineFault, BodyFault, HasFault}
+use Rattle.lts.specs.Aut.{IsAut, IsAutHeader, IsTransition, IsGoodAutLine, AutLineFault, AutBodyFault, HasAutFault}
 use Rattle.lts.specs.Scan.{header_at, transition_at}
 use Rattle.lts.proofs.Gathering.{all_append}
 use Rattle.lts.proofs.Judging.{bad_line}
@@ -21,10 +21,10 @@ use Rattle.lts.proofs.Scanning.{header_gives, header_finds, transition_gives}
 
 -- a line that is no good one has one of these faults
 data Judged (n : ℕ) (line : List ℕ) : Type 0 where
-  fine : IsGoodLine n line → Judged n line
-  no_line : LineFault n line BadLine → Judged n line
-  no_label : LineFault n line BadLabel → Judged n line
-  no_state : LineFault n line NoSuchState → Judged n line
+  fine : IsGoodAutLine n line → Judged n line
+  no_line : AutLineFault n line BadLine → Judged n line
+  no_label : AutLineFault n line BadLabel → Judged n line
+  no_state : AutLineFault n line NoSuchState → Judged n line
 
 by_states : (n : ℕ) (line : List ℕ) (a : Arrow) → IsTransition line a → is_label a.label ≡ true → Judged n line
 by_states n line a is right = elim (leb_tells n a.source) [
@@ -50,36 +50,36 @@ judged n line = by_scan n line (transition_at line) refl
 
 -- as many good lines as were announced, or a fault
 abbrev Body : (m n : ℕ) → List (List ℕ) → Type 0
-Body m n rest = ((length rest ≡ m) × AllByRecursion (IsGoodLine n) rest) ⊎ ((fault : AutFault) × (good : ℕ) × BodyFault m n rest fault good)
+Body m n rest = ((length rest ≡ m) × AllByRecursion (IsGoodAutLine n) rest) ⊎ ((fault : AutFault) × (good : ℕ) × AutBodyFault m n rest fault good)
 
 longer : (front : List (List ℕ)) (line : List ℕ) (m : ℕ) → length front < m → length (front ++ line ∷ []) ≤ m
 longer front line m h = omega (arith, length-append front (line ∷ []), h)
 
 -- a line where one is due
-at_line : (m n : ℕ) (rest front : List (List ℕ)) (line : List ℕ) (back : List (List ℕ)) → rest ≡ front ++ line ∷ back → AllByRecursion (IsGoodLine n) front
+at_line : (m n : ℕ) (rest front : List (List ℕ)) (line : List ℕ) (back : List (List ℕ)) → rest ≡ front ++ line ∷ back → AllByRecursion (IsGoodAutLine n) front
     → length front < m
-    → (IsGoodLine n line → Body m n rest) → Judged n line → Body m n rest
+    → (IsGoodAutLine n line → Body m n rest) → Judged n line → Body m n rest
 at_line m n rest front line back split goods few go (fine good) = go good
 at_line m n rest front line back split goods few go (no_line bad) = inr (BadLine, length front, (front, back, line, split, goods, refl, few, bad))
 at_line m n rest front line back split goods few go (no_label bad) = inr (BadLabel, length front, (front, back, line, split, goods, refl, few, bad))
 at_line m n rest front line back split goods few go (no_state bad) = inr (NoSuchState, length front, (front, back, line, split, goods, refl, few, bad))
 
 -- after these good lines, no more than were announced
-body : (m n : ℕ) (rest front back : List (List ℕ)) → rest ≡ front ++ back → AllByRecursion (IsGoodLine n) front → length front ≤ m → Body m n rest
+body : (m n : ℕ) (rest front back : List (List ℕ)) → rest ≡ front ++ back → AllByRecursion (IsGoodAutLine n) front → length front ≤ m → Body m n rest
 body m n rest front [] split goods few = elim (leb_tells m (length front)) [
-  | inl w ↦ inl (omega (arith, ap length (split ∙ append-nil front), few, w.1), subst (AllByRecursion (IsGoodLine n)) (sym (split ∙ append-nil front)) goods)
+  | inl w ↦ inl (omega (arith, ap length (split ∙ append-nil front), few, w.1), subst (AllByRecursion (IsGoodAutLine n)) (sym (split ∙ append-nil front)) goods)
   | inr w ↦ inr (WrongCount, length front, (front, [], split, goods, refl, inl (refl, w.1)))
 ]
 body m n rest front (line ∷ back) split goods few = elim (leb_tells m (length front)) [
   | inl w ↦ inr (WrongCount, length front, (front, line ∷ back, split, goods, refl, inr (λ e. absurd cc, omega (arith, few, w.1))))
   | inr w ↦ at_line m n rest front line back split goods w.1
       (λ good. body m n rest (front ++ line ∷ []) back (split ∙ sym (append_assoc front (line ∷ []) back))
-      (all_append (IsGoodLine n) front (line ∷ []) goods (good, tt)) (longer front line m w.1))
+      (all_append (IsGoodAutLine n) front (line ∷ []) goods (good, tt)) (longer front line m w.1))
       (judged n line)
 ]
 
 -- what good lines spell
-spelled_by : (n : ℕ) (rest : List (List ℕ)) → AllByRecursion (IsGoodLine n) rest → (arrows : List Arrow) × AllZip IsTransition rest arrows
+spelled_by : (n : ℕ) (rest : List (List ℕ)) → AllByRecursion (IsGoodAutLine n) rest → (arrows : List Arrow) × AllZip IsTransition rest arrows
     × AllByRecursion (IsArrow n) arrows
 spelled_by n [] goods = ([], tt, tt)
 spelled_by n (line ∷ rest) goods =
@@ -90,10 +90,10 @@ spelled_by n (line ∷ rest) goods =
 -- ---- the whole text
 
 abbrev Decided : List ℕ → Type 0
-Decided text = ((l : System) × IsAut text l) ⊎ ((fault : AutFault) × (line : ℕ) × HasFault text fault line)
+Decided text = ((l : System) × IsAut text l) ⊎ ((fault : AutFault) × (line : ℕ) × HasAutFault text fault line)
 
 -- a header within the limits
-by_body : (text first : List ℕ) (rest : List (List ℕ)) (i m n : ℕ) → lines text ≡ first ∷ rest → IsHeader first i m n → m ≤ MOST_TRANSITIONS
+by_body : (text first : List ℕ) (rest : List (List ℕ)) (i m n : ℕ) → lines text ≡ first ∷ rest → IsAutHeader first i m n → m ≤ MOST_TRANSITIONS
     → n ≤ MOST_STATES → i < n → Body m n rest → Decided text
 by_body text first rest i m n cut header few limit initial (inl (count, goods)) =
     let (arrows, each, within) = spelled_by n rest goods in
@@ -104,7 +104,7 @@ by_body text first rest i m n cut header few limit initial (inl (count, goods)) 
         rest = rest;
         spelled = arrows;
         cut = cut;
-        header = subst (λ k. IsHeader first i k n) (sym count) header;
+        header = subst (λ k. IsAutHeader first i k n) (sym count) header;
         each = each;
         set = refl;
         count = omega (arith, count, few);
@@ -118,7 +118,7 @@ by_body text first rest i m n cut header few limit initial (inr (fault, good, wr
     inr (fault, good + 2, inr (first, rest, i, m, n, good, cut, header, few, limit, initial, wrong, refl))
 
 -- a right header
-by_limits : (text first : List ℕ) (rest : List (List ℕ)) (i m n : ℕ) → lines text ≡ first ∷ rest → IsHeader first i m n → Decided text
+by_limits : (text first : List ℕ) (rest : List (List ℕ)) (i m n : ℕ) → lines text ≡ first ∷ rest → IsAutHeader first i m n → Decided text
 by_limits text first rest i m n cut header = elim (leb_tells m MOST_TRANSITIONS) [
   | inr w ↦ inr (OverLimit, 1, inl ((first, rest, i, m, n, cut, header, inl w.1), refl))
   | inl few ↦ elim (leb_tells n MOST_STATES) [
@@ -139,7 +139,7 @@ by_header text first rest cut None none =
       inl (
         λ line others i m n e header.
             let same : line ≡ first = cc in
-            let some = header_finds first i m n (subst (λ l. IsHeader l i m n) same header) in cc,
+            let some = header_finds first i m n (subst (λ l. IsAutHeader l i m n) same header) in cc,
         refl,
       ),
     )

@@ -12,12 +12,12 @@ use Rattle.lts.specs.declared.scan.Announced.{Announced}
 use Rattle.text.specs.Text.{lines}
 use Rattle.systems.specs.Label.{is_label, is_label_byte}
 use Rattle.systems.specs.System.{Arrow, IsArrow}
-use Rattle.lts.specs.Aut.{IsHeader, IsTransition, LineFault, HasFault}
+use Rattle.lts.specs.Aut.{IsAutHeader, IsTransition, AutLineFault, HasAutFault}
 use Rattle.text.specs.Tokens.{capped, sign_at}
 use Rattle.lts.specs.Scan.{header_at, transition_at, PassesTransition}
 use Rattle.lts.specs.declared.scan.Ends.{Ends}
 use Rattle.text.specs.Lines.{IfKnown}
-use Rattle.text.specs.Stream.{line_of, below, HasLine, PassesLine}
+use Rattle.text.specs.Stream.{line_of, after_line, HasLine, PassesLine}
 use Rattle.text.proofs.Streaming.{lines_cons}
 use Rattle.lts.specs.Left.{IsWithinLimits, BeginsSystem, IsAnnouncedFault, IsRowFault, HasNoLine}
 use Rattle.lts.proofs.Unique.{lines_same}
@@ -27,11 +27,11 @@ use Rattle.lts.proofs.Scanning.{header_gives, header_finds, transition_gives, tr
 pub bad_line : (line : List ℕ) → transition_at line ≡ None → (a : Arrow) → IsTransition line a → ⊥
 bad_line line none a h = let some = transition_finds line a h in cc
 
-pub bad_label : (n : ℕ) (line : List ℕ) (a : Arrow) → transition_at line ≡ Some a → is_label a.label ≡ false → LineFault n line BadLabel
+pub bad_label : (n : ℕ) (line : List ℕ) (a : Arrow) → transition_at line ≡ Some a → is_label a.label ≡ false → AutLineFault n line BadLabel
 bad_label n line a found bad = let (b, is, s, l, t) = transition_gives line a found in (b, is, subst (λ x. is_label x ≡ false) l bad)
 
 pub no_state : (n : ℕ) (line : List ℕ) (a : Arrow) → transition_at line ≡ Some a → is_label a.label ≡ true → (n ≤ a.source) ⊎ (n ≤ a.target)
-    → LineFault n line NoSuchState
+    → AutLineFault n line NoSuchState
 no_state n line a found good past =
     let (b, is, s, l, t) = transition_gives line a found in
     (b, is, subst (λ x. is_label x ≡ true) l good, elim past [ inl p ↦ inl (omega arith) | inr p ↦ inr (omega arith) ])
@@ -84,9 +84,9 @@ pub record BadRow (n : ℕ) (fault : AutFault) (text : List ℕ) : Type 0 where
   pub line : List ℕ
   pub rest : List (List ℕ)
   pub cut : lines text ≡ line ∷ rest
-  pub wrong : LineFault n line fault
+  pub wrong : AutLineFault n line fault
 
-good_row : (n : ℕ) (e : Ends) (kept text left : List ℕ) → n < 2 ^ 32 → lines text ≡ line_of text ∷ lines (below text)
+good_row : (n : ℕ) (e : Ends) (kept text left : List ℕ) → n < 2 ^ 32 → lines text ≡ line_of text ∷ lines (after_line text)
     → PassesTransition kept (Some e) text left → IsArrow n (as_kept e kept) → GoodRow n (as_kept e kept) text left
 good_row n e kept text left fits has (label, found, below, short) is =
     let same : label ≡ kept = sym (short ∙ kept_is label (ap is_label (sym short) ∙ is.label)) in
@@ -95,7 +95,7 @@ good_row n e kept text left fits has (label, found, below, short) is =
     record { line = line_of text; cut = has ∙ ap (λ t. line_of text ∷ lines t) (sym below); is = row.0; inside = is }
 
 row_fault : (n : ℕ) (e : Ends) (kept text left : List ℕ) (fault : AutFault) → PassesTransition kept (Some e) text left → IsRowFault n (as_kept e kept) fault
-    → LineFault n (line_of text) fault
+    → AutLineFault n (line_of text) fault
 row_fault n e kept text left BadLabel (label, found, below, short) wrong = bad_label n (line_of text) (as_kept e label) found
     (kept_wrong label (ap is_label (sym short) ∙ wrong))
 row_fault n e kept text left NoSuchState (label, found, below, short) (right, past) =
@@ -121,7 +121,7 @@ row_wrong n e kept fault (Some text) (Some left) None has passes wrong = absurd 
 row_wrong n e kept fault (Some text) (Some left) (Some rest) (same, has) passes wrong =
     record {
       line = line_of text;
-      rest = lines (below text);
+      rest = lines (after_line text);
       cut = has;
       wrong = row_fault n e kept text rest fault (subst (λ t. PassesTransition kept (Some e) t rest) same passes) wrong;
     }
@@ -135,7 +135,7 @@ row_none n kept (Some text) (Some left) None has passes = absurd passes
 row_none n kept (Some text) (Some left) (Some rest) (same, has) passes =
     record {
       line = line_of text;
-      rest = lines (below text);
+      rest = lines (after_line text);
       cut = has;
       wrong = bad_line (line_of text) (ap (λ t. transition_at (line_of t)) (sym same) ∙ passes);
     }
@@ -150,12 +150,12 @@ no_row (Some text) (Some left) has = has.1
 pub a_row : (old new : Option (List ℕ)) → HasLine old new true → IfSome old (λ text. (line : List ℕ) × (rest : List (List ℕ)) × (lines text ≡ line ∷ rest))
 a_row None new has = tt
 a_row (Some text) None has = absurd has
-a_row (Some text) (Some left) has = (line_of text, lines (below text), has.1)
+a_row (Some text) (Some left) has = (line_of text, lines (after_line text), has.1)
 
 -- ---- the header
 
 -- the first line is no header
-pub bad_first : (old new : Option (List ℕ)) → IfKnown old new (PassesLine header_at None) → IfSome old (λ text. HasFault text BadHeader 1)
+pub bad_first : (old new : Option (List ℕ)) → IfKnown old new (PassesLine header_at None) → IfSome old (λ text. HasAutFault text BadHeader 1)
 bad_first None new none = tt
 bad_first (Some text) None none = absurd none
 bad_first (Some []) (Some left) none = inl (λ first rest i m n e header. absurd cc, refl)
@@ -163,8 +163,8 @@ bad_first (Some (b ∷ text)) (Some left) none =
     inl (
       λ first rest i m n e header.
           let cut = lines_cons b text in
-          let same : first ≡ line_of (b ∷ text) = (lines_same first (line_of (b ∷ text)) rest (lines (below (b ∷ text))) (sym e ∙ cut)).0 in
-          let some = header_finds (line_of (b ∷ text)) i m n (subst (λ l. IsHeader l i m n) same header) in cc,
+          let same : first ≡ line_of (b ∷ text) = (lines_same first (line_of (b ∷ text)) rest (lines (after_line (b ∷ text))) (sym e ∙ cut)).0 in
+          let some = header_finds (line_of (b ∷ text)) i m n (subst (λ l. IsAutHeader l i m n) same header) in cc,
       refl,
     )
 
@@ -177,24 +177,24 @@ unfolding header_at sign_at
 no_header h e = cc
 
 -- the first line is this one
-first_line : (text : List ℕ) (h : Announced) → header_at (line_of text) ≡ Some h → lines text ≡ line_of text ∷ lines (below text)
+first_line : (text : List ℕ) (h : Announced) → header_at (line_of text) ≡ Some h → lines text ≡ line_of text ∷ lines (after_line text)
 first_line [] h e = absurd (no_header h e)
 first_line (b ∷ text) h e = lines_cons b text
 
 -- the header announces what no system has
 pub over_first : (old new : Option (List ℕ)) (h : Announced) (fault : AutFault) → IfKnown old new (PassesLine header_at (Some h)) → IsAnnouncedFault h fault
-    → IfSome old (λ text. HasFault text fault 1)
+    → IfSome old (λ text. HasAutFault text fault 1)
 over_first None new h fault found wrong = tt
 over_first (Some text) None h fault found wrong = absurd found
 over_first (Some text) (Some left) h OverLimit (found, after) wrong =
     let (i, m, n, header, hi, hm, hn) = header_gives (line_of text) h found in
     inl (
-      (line_of text, lines (below text), i, m, n, first_line text h found, header, elim wrong [ inl p ↦ inl (omega arith) | inr p ↦ inr (omega arith) ]),
+      (line_of text, lines (after_line text), i, m, n, first_line text h found, header, elim wrong [ inl p ↦ inl (omega arith) | inr p ↦ inr (omega arith) ]),
       refl,
     )
 over_first (Some text) (Some left) h BadStates (found, after) (few, small, past) =
     let (i, m, n, header, hi, hm, hn) = header_gives (line_of text) h found in
-    inl ((line_of text, lines (below text), i, m, n, first_line text h found, header, omega arith, omega arith, omega arith), refl)
+    inl ((line_of text, lines (after_line text), i, m, n, first_line text h found, header, omega arith, omega arith, omega arith), refl)
 over_first (Some text) (Some left) h _ found wrong = absurd wrong
 
 -- the header announces what a system may have
@@ -209,6 +209,6 @@ right_first (Some text) (Some left) h (found, after) admitted =
     record {
       first = line_of text;
       cut = first_line text h found ∙ ap (λ t. line_of text ∷ lines t) (sym after);
-      header = subst (λ n. IsHeader (line_of text) h.initial h.transitions n) same_n
-          (subst (λ m. IsHeader (line_of text) h.initial m n) same_m (subst (λ i. IsHeader (line_of text) i m n) same_i header));
+      header = subst (λ n. IsAutHeader (line_of text) h.initial h.transitions n) same_n
+          (subst (λ m. IsAutHeader (line_of text) h.initial m n) same_m (subst (λ i. IsAutHeader (line_of text) i m n) same_i header));
     }

@@ -10,12 +10,12 @@ use Rattle.lts.specs.declared.scan.Announced.{Announced}
 use Rattle.systems.specs.declared.system.Transition.{Transition}
 use Rattle.text.specs.Text.{lines}
 use Rattle.systems.specs.System.{Arrow, IsArrow}
-use Rattle.lts.specs.Aut.{IsTransition, IsGoodLine}
+use Rattle.lts.specs.Aut.{IsTransition, IsGoodAutLine}
 use Rattle.systems.specs.Numbered.{arrow_of}
 use Rattle.lts.specs.Gathered.{Gathers}
 use Rattle.text.specs.Lines.{IfKnown}
 use Rattle.text.proofs.Streaming.{known_then}
-use Rattle.lts.specs.Left.{HasRestFault, AreTransitions, ArrowsSoFar, BeginsWithRows, HasNoLine}
+use Rattle.lts.specs.Left.{HasAutRestFault, AreTransitions, ArrowsSoFar, BeginsWithRows, HasNoLine}
 use Rattle.lts.proofs.Gathering.{all_append}
 use Rattle.lts.proofs.Judging.{GoodRow, BadRow}
 
@@ -57,7 +57,7 @@ line_more n good old mid new labels labels' ts ts' a so row inside add = record 
 }
 
 pub good_lines : (n : ℕ) (done : List (List ℕ)) (arrows : List Arrow) → AllZip IsTransition done arrows → AllByRecursion (IsArrow n) arrows
-    → AllByRecursion (IsGoodLine n) done
+    → AllByRecursion (IsGoodAutLine n) done
 good_lines n [] [] each within = tt
 good_lines n [] (b ∷ arrows) each within = tt
 good_lines n (l ∷ done) [] each within = absurd each
@@ -74,7 +74,7 @@ zip_length (l ∷ done) (b ∷ arrows) each = omega (arith, zip_length done arro
 record Front (h : Announced) (good : ℕ) (text left : List ℕ) : Type 0 where
   done : List (List ℕ)
   cut : lines text ≡ done ++ lines left
-  goods : AllByRecursion (IsGoodLine h.states) done
+  goods : AllByRecursion (IsGoodAutLine h.states) done
   count : length done ≡ good
 
 front_of : (h : Announced) (good : ℕ) (text left : List ℕ) (labels : List (List ℕ)) (ts : List Transition)
@@ -90,7 +90,7 @@ front_of h good text left labels ts so =
 -- the lines end too soon
 pub too_few : (h : Announced) (good p : ℕ) → p ≡ good → (old mid new : Option (List ℕ)) (labels : List (List ℕ)) (ts : List Transition)
     → ArrowsSoFar h.states good old mid labels ts → IfKnown mid new HasNoLine → good < h.transitions
-    → IfSome old (λ text. HasRestFault h text WrongCount (p + 2))
+    → IfSome old (λ text. HasAutRestFault h text WrongCount (p + 2))
 too_few h good p at None mid new labels ts so none few = tt
 too_few h good p at (Some text) None new labels ts so none few = absurd so.cut
 too_few h good p at (Some text) (Some left) None labels ts so none few = absurd none
@@ -104,7 +104,7 @@ too_few h good p at (Some text) (Some left) (Some rest) labels ts so none few =
 -- a line is left over
 pub too_many : (h : Announced) (good p : ℕ) → p ≡ h.transitions → good ≡ h.transitions
     → (old mid : Option (List ℕ)) (labels : List (List ℕ)) (ts : List Transition) → ArrowsSoFar h.states good old mid labels ts
-    → IfSome mid (λ text. (line : List ℕ) × (rest : List (List ℕ)) × (lines text ≡ line ∷ rest)) → IfSome old (λ text. HasRestFault h text WrongCount (p + 2))
+    → IfSome mid (λ text. (line : List ℕ) × (rest : List (List ℕ)) × (lines text ≡ line ∷ rest)) → IfSome old (λ text. HasAutRestFault h text WrongCount (p + 2))
 too_many h good p at all None mid labels ts so more = tt
 too_many h good p at all (Some text) None labels ts so more = absurd so.cut
 too_many h good p at all (Some text) (Some left) labels ts so (line, rest, more) =
@@ -117,7 +117,7 @@ too_many h good p at all (Some text) (Some left) labels ts so (line, rest, more)
 -- the line is faulty
 pub bad_row : (h : Announced) (good p : ℕ) → p ≡ good → (old mid : Option (List ℕ)) (labels : List (List ℕ)) (ts : List Transition) (fault : AutFault)
     → ArrowsSoFar h.states good old mid labels ts → IfSome mid (BadRow h.states fault)
-    → good < h.transitions → IfSome old (λ text. HasRestFault h text fault (p + 2))
+    → good < h.transitions → IfSome old (λ text. HasAutRestFault h text fault (p + 2))
 bad_row h good p at None mid labels ts fault so row few = tt
 bad_row h good p at (Some text) None labels ts fault so row few = absurd so.cut
 bad_row h good p at (Some text) (Some left) labels ts WrongCount so row few = absurd row.wrong

@@ -6,9 +6,9 @@ use Rattle.text.specs.Tokens.{capped, sign_at, quoted_at, end_at, number_before,
 use Rattle.text.proofs.Scanning.{bind_some, sign_gives, sign_finds, number_before_gives, number_before_finds, quoted_gives, quoted_finds, end_gives, end_finds}
 use Rattle.lts.specs.declared.scan.Announced.{Announced}
 use Rattle.systems.specs.System.{Arrow}
-use Rattle.lts.specs.Aut.{IsHeader, IsTransition}
+use Rattle.lts.specs.Aut.{IsAutHeader, IsTransition}
 use Rattle.text.specs.Lines.{IfKnown}
-use Rattle.text.specs.Stream.{line_of, below, Passes, PassesSign, PassesKept, PassesLine}
+use Rattle.text.specs.Stream.{line_of, after_line, Passes, PassesSign, PassesKept, PassesLine}
 use Rattle.text.proofs.Streaming.{Then, known_only, known_then, known_both, sign_stops, sign_goes_on, token_stops, token_goes_on}
 use Rattle.systems.specs.declared.limits.TheConstants.{LONGEST_LABEL}
 use Rattle.lts.specs.declared.scan.Ends.{Ends}
@@ -28,7 +28,7 @@ header_1 rest = number_before (codes ",") rest >>= λ i. header_2 i.0 i.1
 
 -- what is found is a header
 pub header_gives : (line : List ℕ) (a : Announced) → header_at line ≡ Some a
-    → (i m n : ℕ) × IsHeader line i m n × (a.initial ≡ capped i) × (a.transitions ≡ capped m) × (a.states ≡ capped n)
+    → (i m n : ℕ) × IsAutHeader line i m n × (a.initial ≡ capped i) × (a.transitions ≡ capped m) × (a.states ≡ capped n)
 unfolding header_at counts_at
 header_gives line a e =
     let (r1, s1, e1) = bind_some (sign_at (codes "des") line) (λ rest. sign_at (codes "(") rest >>= header_1) a e in
@@ -54,7 +54,7 @@ header_gives line a e =
     )
 
 -- a header is found
-pub header_finds : (line : List ℕ) (i m n : ℕ) → IsHeader line i m n
+pub header_finds : (line : List ℕ) (i m n : ℕ) → IsAutHeader line i m n
     → header_at line ≡ Some (record { initial = capped i; transitions = capped m; states = capped n })
 unfolding header_at counts_at
 header_finds line i m n (x, y, z, hx, hy, hz, spaced) =
@@ -201,7 +201,7 @@ no_source kept old mid new bracket none = sign_goes_on (sign_at (codes "(")) tra
 
 -- what the label and what follows it say
 abbrev pub Labelled : ℕ → List ℕ → Option Ends → List ℕ → List ℕ → Type 0
-Labelled s kept (Some e) text left = (label : List ℕ) × (transition_2 s (line_of text) ≡ Some (arrow e.source label e.target)) × (left ≡ below text)
+Labelled s kept (Some e) text left = (label : List ℕ) × (transition_2 s (line_of text) ≡ Some (arrow e.source label e.target)) × (left ≡ after_line text)
     × (kept ≡ take (LONGEST_LABEL + 1) label)
 Labelled s kept None text left = transition_2 s (line_of text) ≡ None
 

@@ -7,9 +7,9 @@ use Rattle.lts.specs.declared.error.AutError.TheVariants as errors
 use Rattle.lts.specs.declared.scan.Announced.{Announced}
 use Rattle.text.specs.Text.{lines}
 use Rattle.systems.specs.System.{Arrow, System, IsArrow, set_of}
-use Rattle.lts.specs.Aut.{IsAut, IsHeader, HasFault, HasFaultAt}
+use Rattle.lts.specs.Aut.{IsAut, IsAutHeader, HasAutFault, HasAutFaultAt}
 use Rattle.text.specs.Lines.{IfKnown}
-use Rattle.lts.specs.Left.{IsWithinLimits, BeginsSystem, AreTransitions, HasRestFault, Refuses, named}
+use Rattle.lts.specs.Left.{IsWithinLimits, BeginsSystem, AreTransitions, HasAutRestFault, RefusesAut, aut_fault_of}
 use Rattle.text.specs.declared.error.ReadFault.TheVariants as reads
 use Rattle.text.specs.Reads.{Reads}
 use Rattle.text.proofs.Promised.{AreLaws, keeps}
@@ -25,9 +25,9 @@ whole h text left rest arrows l admitted begins are within states initial set = 
   rest = lines left;
   spelled = arrows;
   cut = begins.cut;
-  header = subst (λ n. IsHeader begins.first l.initial (length (lines left)) n) (sym states)
-      (subst (λ i. IsHeader begins.first i (length (lines left)) h.states) (sym initial)
-      (subst (λ m. IsHeader begins.first h.initial m h.states) (sym are.count) begins.header));
+  header = subst (λ n. IsAutHeader begins.first l.initial (length (lines left)) n) (sym states)
+      (subst (λ i. IsAutHeader begins.first i (length (lines left)) h.states) (sym initial)
+      (subst (λ m. IsAutHeader begins.first h.initial m h.states) (sym are.count) begins.header));
   each = are.each;
   set = set;
   count = omega (arith, are.count, admitted.transitions);
@@ -48,8 +48,8 @@ read_whole (Some text) (Some left)
     (Some rest) h arrows l admitted begins are within states initial set = whole h text left rest arrows l admitted begins are within states initial set
 
 -- a fault below the header decides
-pub read_fault : (old mid : Option (List ℕ)) (h : Announced) (e : AutError) → IsWithinLimits h → IfKnown old mid (BeginsSystem h) → Refuses mid (HasRestFault h) e
-    → Refuses old HasFault e
+pub read_fault : (old mid : Option (List ℕ)) (h : Announced) (e : AutError) → IsWithinLimits h → IfKnown old mid (BeginsSystem h) → RefusesAut mid (HasAutRestFault h) e
+    → RefusesAut old HasAutFault e
 read_fault None mid h e admitted begins wrong = tt
 read_fault (Some text) None h e admitted begins wrong = absurd begins
 read_fault (Some text) (Some left) h errors.Read admitted begins wrong = tt
@@ -71,7 +71,7 @@ read_fault (Some text) (Some left) h (errors.Fault fault line) admitted begins (
       place,
     )
 
-pub laws : AreLaws IsAut IsAut IsAut HasFaultAt
+pub laws : AreLaws IsAut IsAut IsAut HasAutFaultAt
 laws = record {
   one_value = λ text l k a b. unique.one_system text k l b a;
   no_fault = λ text l f a h. no_fault text l f.0 f.1 a h;
@@ -81,5 +81,5 @@ laws = record {
 
 -- all that the reader promises
 pub promised : (old : Option (List ℕ)) (r : Result Numbered AutError) → IfOk r (λ l. IfSome old (λ text. IsAut text l.system))
-    → IfErr r (Refuses old HasFault) → Reads IsAut IsAut IsAut HasFaultAt (λ (l : Numbered). l.system) named old r
-promised old r spelled fault = keeps IsAut IsAut IsAut HasFaultAt (λ (l : Numbered). l.system) named laws old r spelled fault
+    → IfErr r (RefusesAut old HasAutFault) → Reads IsAut IsAut IsAut HasAutFaultAt (λ (l : Numbered). l.system) aut_fault_of old r
+promised old r spelled fault = keeps IsAut IsAut IsAut HasAutFaultAt (λ (l : Numbered). l.system) aut_fault_of laws old r spelled fault

@@ -13,17 +13,17 @@ use Rattle.systems.specs.declared.system.Transition.{Transition}
 use Rattle.systems.specs.Label.{is_label}
 use Rattle.systems.specs.System.{Arrow, IsArrow}
 use Rattle.lts.specs.Gathered.{Gathers}
-use Rattle.lts.specs.Aut.{IsHeader, IsTransition, BodyFault}
+use Rattle.lts.specs.Aut.{IsAutHeader, IsTransition, AutBodyFault}
 
 -- the fault that an error tells, and its line: none for a failed read, or for want of memory
-abbrev pub named : AutError → Option (AutFault × ℕ)
-named (Fault fault line) = Some (fault, line)
-named Read = None
-named Memory = None
+abbrev pub aut_fault_of : AutError → Option (AutFault × ℕ)
+aut_fault_of (Fault fault line) = Some (fault, line)
+aut_fault_of Read = None
+aut_fault_of Memory = None
 
 -- P holds of what was left, where that is known, and of the fault and its line, if it was one
-abbrev pub Refuses : Option (List ℕ) → (List ℕ → AutFault → ℕ → Type 0) → AutError → Type 0
-Refuses old P e = IfSome old (λ text. IfSome (named e) (λ told. P text told.0 told.1))
+abbrev pub RefusesAut : Option (List ℕ) → (List ℕ → AutFault → ℕ → Type 0) → AutError → Type 0
+RefusesAut old P e = IfSome old (λ text. IfSome (aut_fault_of e) (λ told. P text told.0 told.1))
 
 -- what a right header announces is within the limits
 pub record IsWithinLimits (h : Announced) : Type 0 where
@@ -35,7 +35,7 @@ pub record IsWithinLimits (h : Announced) : Type 0 where
 pub record BeginsSystem (h : Announced) (text left : List ℕ) : Type 0 where
   pub first : List ℕ
   pub cut : lines text ≡ first ∷ lines left
-  pub header : IsHeader first h.initial h.transitions h.states
+  pub header : IsAutHeader first h.initial h.transitions h.states
 
 -- the lines are these transitions, as many as were announced
 pub record AreTransitions (h : Announced) (arrows : List Arrow) (text left : List ℕ) : Type 0 where
@@ -43,8 +43,8 @@ pub record AreTransitions (h : Announced) (arrows : List Arrow) (text left : Lis
   pub count : length (lines text) ≡ h.transitions
 
 -- the fault of the lines below a header, and its line in the whole text
-abbrev pub HasRestFault : Announced → List ℕ → AutFault → ℕ → Type 0
-HasRestFault h text fault place = (good : ℕ) × BodyFault h.transitions h.states (lines text) fault good × (place ≡ good + 2)
+abbrev pub HasAutRestFault : Announced → List ℕ → AutFault → ℕ → Type 0
+HasAutRestFault h text fault place = (good : ℕ) × AutBodyFault h.transitions h.states (lines text) fault good × (place ≡ good + 2)
 
 -- what is wrong with what a header announces
 abbrev pub IsAnnouncedFault : Announced → AutFault → Type 0

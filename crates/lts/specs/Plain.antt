@@ -26,6 +26,6 @@ pub record IsPlainThen (source : ℕ) (label : List ℕ) (target : ℕ) (text le
   pub cut : text ≡ plain_text from label to (10 ∷ left)
 
 -- the line is this transition, and is taken; or nothing is
-abbrev pub PassesAtHand : List ℕ → Option Ends → List ℕ → List ℕ → Type 0
-PassesAtHand kept (Some e) text left = PassesTransition kept (Some e) text left
-PassesAtHand kept None text left = left ≡ text
+abbrev pub PassesAutAtHand : List ℕ → Option Ends → List ℕ → List ℕ → Type 0
+PassesAutAtHand kept (Some e) text left = PassesTransition kept (Some e) text left
+PassesAutAtHand kept None text left = left ≡ text

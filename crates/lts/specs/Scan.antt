@@ -1,7 +1,7 @@
 -- What a line is as a test: a header or a transition.
 use Rattle.std.specs.Prelude.{◌≡◌, ℕ, ◌+◌, List, codes, take, Option, Some, None}
 use Rattle.text.specs.Tokens.{sign_at, quoted_at, number_before, end_at, ◌>>=◌}
-use Rattle.text.specs.Stream.{line_of, below}
+use Rattle.text.specs.Stream.{line_of, after_line}
 use Rattle.systems.specs.declared.limits.TheConstants.{LONGEST_LABEL}
 use Rattle.systems.specs.System.{Arrow}
 use Rattle.lts.specs.declared.scan.Announced.{Announced}
@@ -49,6 +49,6 @@ transition_at line = do
 -- The line is a transition between these states, of whose label the first bytes are kept: one more than a label has at most.
 abbrev pub PassesTransition : List ℕ → Option Ends → List ℕ → List ℕ → Type 0
 PassesTransition kept (Some e) text left =
-    (label : List ℕ) × (transition_at (line_of text) ≡ Some (record { source = e.source; label = label; target = e.target })) × (left ≡ below text)
+    (label : List ℕ) × (transition_at (line_of text) ≡ Some (record { source = e.source; label = label; target = e.target })) × (left ≡ after_line text)
     × (kept ≡ take (LONGEST_LABEL + 1) label)
 PassesTransition kept None text left = transition_at (line_of text) ≡ None

@@ -4,6 +4,6 @@ use Rattle.text.specs.declared.error.ReadFault.TheVariants as reads
 use Rattle.lts.specs.declared.error.AutError.{AutError}
 use Rattle.lts.specs.declared.error.AutError.TheVariants as errors
 
-abbrev pub unread : ReadFault → AutError
-unread reads.Read = errors.Read
-unread reads.Memory = errors.Memory
+abbrev pub aut_unread : ReadFault → AutError
+aut_unread reads.Read = errors.Read
+aut_unread reads.Memory = errors.Memory

@@ -58,9 +58,9 @@ impl From<Memory> for AutError {
 
 impl From<ReadFault> for AutError {
     ghost use Rattle.std.specs.Prelude.{◌≡◌};
-    ghost use Rattle.lts.specs.Unread.{unread};
+    ghost use Rattle.lts.specs.Unread.{aut_unread};
 
-    ghost from_gives = { λ fault e. e ≡ unread fault };
+    ghost from_gives = { λ fault e. e ≡ aut_unread fault };
 
     fn from(fault: ReadFault) -> Self {
         match fault {

@@ -1,6 +1,6 @@
 // What holds of all texts of systems.
 
-ghost use Rattle.lts.specs.Laws.{OneSystem, NoFault, OneFault, Decided, CanonSpells};
+ghost use Rattle.lts.specs.Laws.{OneSystem, NoAutFault, OneAutFault, AutTextIsDecided, AutTextSpells};
 
 /// A text spells at most one system.
 pub fn one_system()
@@ -8,21 +8,21 @@ pub fn one_system()
 {}
 
 /// A text that spells a system has no deciding fault.
-pub fn no_fault()
-    ensures { NoFault }
+pub fn no_aut_fault()
+    ensures { NoAutFault }
 {}
 
 /// A text has at most one deciding fault, at one line.
-pub fn one_fault()
-    ensures { OneFault }
+pub fn one_aut_fault()
+    ensures { OneAutFault }
 {}
 
 /// A text spells a system, or a fault decides: with the laws above, one of the two and just one of its kind.
-pub fn decided()
-    ensures { Decided }
+pub fn aut_text_is_decided()
+    ensures { AutTextIsDecided }
 {}
 
 /// The canonical text of a system spells the system, and by `one_system` no other.
-pub fn canon_spells()
-    ensures { CanonSpells }
+pub fn aut_text_spells()
+    ensures { AutTextSpells }
 {}

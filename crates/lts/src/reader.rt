@@ -7,12 +7,12 @@ ghost use Rattle.text.specs.Lines.{IfKnown};
 ghost use Rattle.text.specs.Reads.{Reads};
 ghost use Rattle.systems.specs.Label as label;
 ghost use Rattle.systems.specs.System.{Arrow, IsArrow, set_of};
-ghost use Rattle.lts.specs.Aut.{IsAut, HasFault, HasFaultAt};
+ghost use Rattle.lts.specs.Aut.{IsAut, HasAutFault, HasAutFaultAt};
 ghost use Rattle.lts.specs.declared.error.AutError.TheVariants as errors;
 ghost use Rattle.lts.specs.Scan.{said};
 ghost use Rattle.systems.specs.Label.{texts};
 ghost use Rattle.lts.specs.Gathered.{Gathers};
-ghost use Rattle.lts.specs.Left.{Refuses, IsWithinLimits, BeginsSystem, ArrowsSoFar, HasNoLine, AreTransitions, HasRestFault, IsAnnouncedFault, IsRowFault, named};
+ghost use Rattle.lts.specs.Left.{RefusesAut, IsWithinLimits, BeginsSystem, ArrowsSoFar, HasNoLine, AreTransitions, HasAutRestFault, IsAnnouncedFault, IsRowFault, aut_fault_of};
 
 use crate::assemble::assemble;
 use crate::error::{AutError, AutFault};
@@ -43,7 +43,7 @@ fn first_fault(found: Announced) -> Option<AutFault>
 fn read_first<B: Blocks>(reader: &mut B, digits: &mut Vec<u8>) -> Result<Announced, AutError>
     ensures first { IfOk result (λ found. IfKnown (B.remaining reader.old) (B.remaining reader.new) (BeginsSystem found)) }
     ensures within { IfOk result IsWithinLimits }
-    ensures fault { IfErr result (Refuses (B.remaining reader.old) HasFault) }
+    ensures fault { IfErr result (RefusesAut (B.remaining reader.old) HasAutFault) }
     ensures cause { IfErr result (HasCause B.can_fail errors.Read) }
 {
     let Some(found) = header(reader, digits)? else {
@@ -102,7 +102,7 @@ fn read_row<B: Blocks>(
     ensures labels { OnOk result (length rows.new.labels.items ≤ good + 1) }
     ensures fault { IfErr result (λ e. (old : Option (List ℕ))
         → ArrowsSoFar found.states good old (B.remaining reader.old) (texts rows.old.labels.items) rows.old.transitions.items
-        → Refuses old (HasRestFault found) e) }
+        → RefusesAut old (HasAutRestFault found) e) }
     ensures cause { IfErr result (HasCause B.can_fail errors.Read) }
 {
     let line = u64::from(good) + 2;
@@ -129,7 +129,7 @@ fn read_row<B: Blocks>(
 fn read_end<B: Blocks>(reader: &mut B, found: Announced) -> Result<(), AutError>
     ensures end { OnOk result (IfKnown (B.remaining reader.old) (B.remaining reader.new) HasNoLine) }
     ensures fault { IfErr result (λ e. (old : Option (List ℕ)) (labels : List (List ℕ)) (transitions : List Transition)
-        → ArrowsSoFar found.states found.transitions old (B.remaining reader.old) labels transitions → Refuses old (HasRestFault found) e) }
+        → ArrowsSoFar found.states found.transitions old (B.remaining reader.old) labels transitions → RefusesAut old (HasAutRestFault found) e) }
     ensures cause { IfErr result (HasCause B.can_fail errors.Read) }
 {
     if has_line(reader)? {
@@ -157,7 +157,7 @@ fn read_rows<B: Blocks>(
         × IfKnown (B.remaining reader.old) (B.remaining reader.new) (AreTransitions found arrows)) }
     ensures within { OnOk result (length rows.new.transitions.items ≤ MOST_TRANSITIONS) }
     ensures labels { OnOk result (length rows.new.labels.items ≤ MOST_TRANSITIONS) }
-    ensures fault { IfErr result (Refuses (B.remaining reader.old) (HasRestFault found)) }
+    ensures fault { IfErr result (RefusesAut (B.remaining reader.old) (HasAutRestFault found)) }
     ensures cause { IfErr result (HasCause B.can_fail errors.Read) }
 {
     for good in 0..found.transitions {
@@ -181,7 +181,7 @@ fn read_rest<B: Blocks>(
         × AllByRecursion (IsArrow found.states) arrows
         × IfKnown (B.remaining reader.old) (B.remaining reader.new) (AreTransitions found arrows)
         × (l.system ≡ record { states = found.states; initial = found.initial; arrows = set_of arrows })) }
-    ensures fault { IfErr result (Refuses (B.remaining reader.old) (HasRestFault found)) }
+    ensures fault { IfErr result (RefusesAut (B.remaining reader.old) (HasAutRestFault found)) }
     ensures cause { IfErr result (HasCause B.can_fail errors.Read) }
 {
     read_rows(alloc, reader, kept, found, rows)?;
@@ -192,7 +192,7 @@ fn read_rest<B: Blocks>(
 // Reads the whole text.
 fn read_text<B: Blocks>(alloc: Global, reader: &mut B) -> Result<Lts, AutError>
     ensures spelled { IfOk result (λ l. IfSome (B.remaining reader.old) (λ text. IsAut text l.system)) }
-    ensures fault { IfErr result (Refuses (B.remaining reader.old) HasFault) }
+    ensures fault { IfErr result (RefusesAut (B.remaining reader.old) HasAutFault) }
     ensures cause { IfErr result (HasCause B.can_fail errors.Read) }
 {
     let mut kept = Kept::new(alloc);
@@ -208,7 +208,7 @@ fn read_text<B: Blocks>(alloc: Global, reader: &mut B) -> Result<Lts, AutError>
 /// # Errors
 /// The first faulty line decides. A text is also refused where a read fails, or for want of memory.
 pub fn read_aut<R: Source + Drop>(alloc: Global, reader: R) -> Result<Lts, AutError>
-    ensures reads { Reads IsAut IsAut IsAut HasFaultAt (λ l. l.system) named (R.remaining reader) result }
+    ensures reads { Reads IsAut IsAut IsAut HasAutFaultAt (λ l. l.system) aut_fault_of (R.remaining reader) result }
     ensures cause { IfErr result (HasCause R.can_fail errors.Read) }
 {
     let mut blocks = blocks_of(alloc, reader)?;

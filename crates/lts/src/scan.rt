@@ -6,7 +6,7 @@ ghost use Rattle.text.specs.declared.error.ReadFault.TheVariants as reads;
 ghost use Rattle.text.specs.Lines.{IfKnown};
 ghost use Rattle.text.specs.Stream.{PassesLine};
 ghost use Rattle.lts.specs.Scan.{PassesTransition};
-ghost use Rattle.lts.specs.Plain.{PassesAtHand};
+ghost use Rattle.lts.specs.Plain.{PassesAutAtHand};
 ghost use Rattle.lts.specs.Scan as at;
 
 use crate::plain::plain_line;
@@ -15,7 +15,7 @@ use std::io::ErrorKind;
 use systems::limits::LONGEST_LABEL;
 use text::error::ReadFault;
 use text::source::{Blocks, fault_of};
-use text::stream::{ends, number_before, quoted, sign, word};
+use text::stream::{has_ended, number_before, quoted, sign, word};
 
 /// What a header says. A number that is too great for its type is read as the greatest one.
 #[derive(Clone, Copy)]
@@ -70,7 +70,7 @@ fn counts<B: Blocks>(reader: &mut B, digits: &mut Vec<u8>) -> Result<Option<Anno
     let Some(states) = number_before(reader, b')', digits)? else {
         return Ok(None);
     };
-    if !ends(reader)? {
+    if !has_ended(reader)? {
         return Ok(None);
     }
     Ok(Some(Announced {
@@ -108,7 +108,7 @@ fn target<B: Blocks>(reader: &mut B, digits: &mut Vec<u8>) -> Result<Option<u32>
     let Some(target) = number_before(reader, b')', digits)? else {
         return Ok(None);
     };
-    if !ends(reader)? {
+    if !has_ended(reader)? {
         return Ok(None);
     }
     Ok(Some(target))
@@ -136,7 +136,7 @@ fn by_tokens<B: Blocks>(reader: &mut B, kept: &mut Kept) -> Result<Option<Ends>,
 
 // Reads the line that is next as a transition where it stands whole in the block at hand, as tools write it. Else it takes nothing.
 fn at_hand<B: Blocks>(reader: &mut B, kept: &mut Kept) -> Result<Option<Ends>, ReadFault>
-    ensures { MatchResult result (λ found. IfKnown (B.remaining reader.old) (B.remaining reader.new) (PassesAtHand kept.new.label.items found))
+    ensures { MatchResult result (λ found. IfKnown (B.remaining reader.old) (B.remaining reader.new) (PassesAutAtHand kept.new.label.items found))
         (HasCause B.can_fail reads.Read) }
 {
     let block = match reader.fill_buf() {

@@ -8,7 +8,7 @@ ghost use Rattle.calculus.specs.Holds.{holds as holds_of};
 ghost use Rattle.calculus.specs.Meaning.{MarksOf};
 ghost use Rattle.meaning.specs.Into.{Into};
 
-use crate::sets::all;
+use crate::sets::all_marks;
 use calculus::holds;
 use calculus::tree::Act;
 use std::alloc::{AllocError, Global};
@@ -52,7 +52,7 @@ pub fn before(
     ensures { IfOk result (λ found. MarksOf lts.now.system.states found.items (Into lts.now.system (Step (action_of action.now)) marks.now)) }
 {
     let chosen = chosen_labels(alloc, lts, action)?;
-    let mut found = all(alloc, lts.states() as usize, false)?;
+    let mut found = all_marks(alloc, lts.states() as usize, false)?;
     for &Transition {
         source,
         label,

@@ -12,7 +12,7 @@ ghost use Rattle.meaning.specs.Term.{formula_in, IsRight};
 
 use crate::environment::Environment;
 use crate::regular::leading;
-use crate::sets::{all, complement, copied, intersection, union};
+use crate::sets::{all_marks, complement, copied_marks, intersection, union};
 use crate::term::{Term, term_of};
 use calculus::closed::Closed;
 use std::alloc::{AllocError, Global};
@@ -30,7 +30,7 @@ fn set_of(
     ensures { IfOk result (λ marks. MarksOf count marks.items (sets_of environment.now name.now.items)) }
 {
     match environment {
-        Environment::Empty => all(alloc, count, false),
+        Environment::Empty => all_marks(alloc, count, false),
         Environment::More(other, marks, outer) => {
             if name.as_slice() == other.as_slice() {
                 marks.to_vec(alloc)
@@ -61,7 +61,7 @@ fn iterated<'x, 'a>(
         (λ s. IsTrue from))) }
 {
     let count = lts.states();
-    let mut set = all(alloc, count as usize, from)?;
+    let mut set = all_marks(alloc, count as usize, from)?;
     if !used {
         return marks_of(
             alloc,
@@ -100,9 +100,9 @@ pub(crate) fn marks_of<'x, 'a>(
 {
     let count = lts.states() as usize;
     match term {
-        Term::Known(_, marks) => copied(alloc, marks),
-        Term::True => all(alloc, count, true),
-        Term::False => all(alloc, count, false),
+        Term::Known(_, marks) => copied_marks(alloc, marks),
+        Term::True => all_marks(alloc, count, true),
+        Term::False => all_marks(alloc, count, false),
         Term::Var(name) => set_of(alloc, environment, name, count),
         Term::Not(operand) => {
             let marks = marks_of(alloc, lts, operand, environment)?;

@@ -6,7 +6,7 @@ use console::input::{CountedInput, open};
 use console::line::{Output, ProgressLine};
 use console::refusal::Refusal;
 use console::same::keep_game_apart;
-use console::stats::{Stats, Step};
+use console::stats::{Activity, Stats};
 use engines::request::Solve;
 use std::sync::Wait;
 use std::thread::Threads;
@@ -29,7 +29,7 @@ pub fn run_solve<T: Threads + Wait + Clock + Clone + Copy + Drop + Send + Sync +
     };
     let line = ProgressLine::new(*rt, threads, stats, None);
     let ticker = line.start();
-    line.step(Step::ReadingGame);
+    line.step(Activity::ReadingGame);
     let mut out = Output::new(*rt, &line);
     let answer = solve_asked(
         threads,

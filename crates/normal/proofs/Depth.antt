@@ -3,12 +3,12 @@ use Rattle.std.proofs.Common.{◌≡◌, ◌+◌, ◌%◌, ◌≤◌, ℕ, max, 
 use Rattle.std.specs.Prelude.{if◌then◌else◌}
 use Rattle.std.specs.List.{AllZip}
 use Rattle.std.proofs.lemmas.Bool.Decides.{eqb_tells}
-use Rattle.normal.specs.Tree.{Norm, Constant, Junction, Modality, Fixpoint, Variable, size, chain, depth, normal_form}
-use Rattle.normal.specs.Nodes.{Node, nodes_by, nested, greatest_nested, greatest_priority, parity_from}
-use Rattle.normal.specs.Rules.{names, above, dependent, nodes_with}
-use Rattle.normal.specs.declared.priorities.Priorities.TheVariants.{Nested, Dependent}
+use Rattle.forms.specs.Tree.{Norm, Constant, Junction, Modality, Fixpoint, Variable, size, chain, depth, normal_form}
+use Rattle.forms.specs.Nodes.{Node, nodes_by, nested_rule, greatest_nested, greatest_node_priority, parity_from}
+use Rattle.forms.specs.Rules.{names, above, dependent, nodes_with}
+use Rattle.forms.specs.declared.priorities.Priorities.TheVariants.{Nested, Dependent}
 use Rattle.normal.specs.Laws.{PriorityWithinDepth, DependentIsLower}
-use Rattle.normal.proofs.Numbers.{no_less}
+use Rattle.forms.proofs.Sizes.{no_less}
 use Rattle.normal.proofs.Surveying.{greatest_append}
 
 -- A chain that begins with the kind of the greatest priority is at least as long.
@@ -59,12 +59,12 @@ greatest_within_depth f =
     ]
 
 -- the greatest priority in the tree is the greatest that a node has
-nodes_greatest : (at : ℕ) (f : Norm) → greatest_priority (nodes_by nested at f) ≡ greatest_nested f
+nodes_greatest : (at : ℕ) (f : Norm) → greatest_node_priority (nodes_by nested_rule at f) ≡ greatest_nested f
 nodes_greatest at (Constant flag) = omega arith
 nodes_greatest at (Junction flag f g) =
     omega (
       arith,
-      greatest_append (nodes_by nested (at + 1) f) (nodes_by nested (at + 1 + size f) g),
+      greatest_append (nodes_by nested_rule (at + 1) f) (nodes_by nested_rule (at + 1 + size f) g),
       nodes_greatest (at + 1) f,
       nodes_greatest (at + 1 + size f) g,
     )
@@ -102,12 +102,12 @@ zip_append R (x ∷ xs) (y ∷ ys) us vs h k = (h.0, zip_append R xs ys us vs h.
 abbrev IsLower : Node → Node → Type 0
 IsLower d n = d.priority ≤ n.priority
 
-lower : (at : ℕ) (f : Norm) → AllZip IsLower (nodes_by dependent at f) (nodes_by nested at f)
+lower : (at : ℕ) (f : Norm) → AllZip IsLower (nodes_by dependent at f) (nodes_by nested_rule at f)
 lower at (Constant flag) = (omega arith, tt)
 lower at (Junction flag f g) = (
   omega arith,
-  zip_append IsLower (nodes_by dependent (at + 1) f) (nodes_by nested (at + 1) f) (nodes_by dependent (at + 1 + size f) g)
-      (nodes_by nested (at + 1 + size f) g) (lower (at + 1) f) (lower (at + 1 + size f) g),
+  zip_append IsLower (nodes_by dependent (at + 1) f) (nodes_by nested_rule (at + 1) f) (nodes_by dependent (at + 1 + size f) g)
+      (nodes_by nested_rule (at + 1 + size f) g) (lower (at + 1) f) (lower (at + 1 + size f) g),
 )
 lower at (Modality flag a f) = (omega arith, lower (at + 1) f)
 lower at (Fixpoint flag f) = (parity_rises flag (above at (at + 1) f) (greatest_nested f) (above_le_greatest at (at + 1) f), lower (at + 1) f)
@@ -118,7 +118,7 @@ dependent_is_lower f = lower 0 (normal_form f)
 
 -- ---- either rule
 
-greatest_lower : (xs ys : List Node) → AllZip IsLower xs ys → greatest_priority xs ≤ greatest_priority ys
+greatest_lower : (xs ys : List Node) → AllZip IsLower xs ys → greatest_node_priority xs ≤ greatest_node_priority ys
 greatest_lower [] [] h = omega arith
 greatest_lower [] (y ∷ ys) h = absurd h
 greatest_lower (x ∷ xs) [] h = absurd h

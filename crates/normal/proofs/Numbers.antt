@@ -3,14 +3,14 @@ use Rattle.std.proofs.Common.{◌≡◌, ◌+◌, ◌≤◌, ◌<◌, ℕ, Bool,
 use Rattle.std.specs.List.{AllByRecursion}
 use Rattle.std.specs.Str.{bytes_eq}
 use Rattle.calculus.specs.Tree.{Regular, Step, Then, Either, Star, Plus, Formula, True, False, Var, Not, And, Or, Implies, Dia, Box, Mu, Nu}
-use Rattle.normal.specs.Tree.{Norm, Constant, Junction, Modality, Fixpoint, Variable, size, two, loop_of, modal, with_binder, norm, normal_form, node_count}
-use Rattle.normal.specs.Nodes.{Rule, nodes_by, node_at, parity_from, greatest_priority}
-use Rattle.normal.specs.Rules.{rule_of, nodes_with}
-use Rattle.normal.specs.declared.priorities.Priorities.{Priorities}
-use Rattle.normal.specs.Form.{IsNode, IsForm}
+use Rattle.forms.specs.Tree.{Norm, Constant, Junction, Modality, Fixpoint, Variable, size, two, loop_of, modal, with_binder, norm, normal_form, node_count}
+use Rattle.forms.specs.Nodes.{Rule, nodes_by, node_at, parity_from, greatest_node_priority}
+use Rattle.forms.specs.Rules.{rule_of, nodes_with}
+use Rattle.forms.specs.declared.priorities.Priorities.{Priorities}
+use Rattle.forms.specs.Form.{IsNode, IsForm}
 use Rattle.normal.proofs.Counts.{norm_size}
 use Rattle.normal.proofs.Surveying.{greatest_append}
-use Rattle.normal.proofs.Writing.{preorder_length}
+use Rattle.forms.proofs.Sizes.{no_less, preorder_length, size_some}
 
 -- each variable's number is below n
 abbrev VariablesBelow : ℕ → Norm → Type 0
@@ -20,22 +20,11 @@ VariablesBelow n (Modality flag a f) = VariablesBelow n f
 VariablesBelow n (Fixpoint flag f) = VariablesBelow n f
 VariablesBelow n (Variable binder) = binder < n
 
-pub size_some : (f : Norm) → 1 ≤ size f
-size_some (Constant flag) = omega arith
-size_some (Junction flag f g) = omega arith
-size_some (Modality flag a f) = omega arith
-size_some (Fixpoint flag f) = omega arith
-size_some (Variable binder) = omega arith
-
 all_append : {X : Type 0} (P : X → Type 0) (xs ys : List X) → AllByRecursion P xs → AllByRecursion P ys → AllByRecursion P (xs ++ ys)
 all_append P [] ys h k = k
 all_append P (x ∷ xs) ys h k = (h.0, all_append P xs ys h.1 k)
 
-pub no_less : (flag : Bool) (n : ℕ) → n ≤ parity_from flag n
-no_less true n = omega arith
-no_less false n = omega arith
-
-numbered : (rule : Rule) (n at : ℕ) (f : Norm) → VariablesBelow n f → at + size f ≤ n → greatest_priority (nodes_by rule at f) ≤ 31
+numbered : (rule : Rule) (n at : ℕ) (f : Norm) → VariablesBelow n f → at + size f ≤ n → greatest_node_priority (nodes_by rule at f) ≤ 31
     → AllByRecursion (IsNode n) (nodes_by rule at f)
 numbered rule n at (Constant flag) v fits low = ((omega arith, tt), tt)
 numbered rule n at (Junction flag f g) v fits low =
@@ -90,7 +79,7 @@ norm_below n flag binders (Nu name f) b at fits = norm_below n flag (with_binder
     (at + 1) (omega (arith, fits))
 
 -- The nodes of a normal form within the limits are those of a `Normal`.
-pub is_form : (priorities : Priorities) (f : Formula) → node_count f ≤ 4096 → greatest_priority (nodes_with priorities f) ≤ 31 → IsForm (nodes_with priorities f)
+pub is_form : (priorities : Priorities) (f : Formula) → node_count f ≤ 4096 → greatest_node_priority (nodes_with priorities f) ≤ 31 → IsForm (nodes_with priorities f)
 is_form priorities f few low =
     let tree = normal_form f in
     let rule = rule_of priorities in

@@ -2,11 +2,11 @@
 use Rattle.std.proofs.Common.{◌≡◌, ℕ, ◌+◌, ◌<◌, ◌≤◌, max, List, [], ◌∷◌, ◌++◌, length, drop, get_or, drop-cons, add-one, decimal, refl, sym, ap, ◌∙◌}
 use Rattle.std.proofs.Common.{append_assoc, append-nil}
 use Rattle.std.proofs.Math.ListN.{drop_of_length-le}
-use Rattle.normal.specs.Nodes.{Node, greatest_priority}
+use Rattle.forms.specs.Nodes.{Node, greatest_node_priority}
 use Rattle.text.specs.Pieces.{line_end}
 use Rattle.normal.specs.NormalText.{fields, after_spaces, kind_text, rest_of, node_line, node_lines}
-use Rattle.normal.specs.View.{node_of, nodes_of}
-use Rattle.normal.specs.declared.node as declared
+use Rattle.forms.specs.View.{node_of, nodes_of}
+use Rattle.forms.specs.declared.node as declared
 
 one_more : (a : List ℕ) (others : List (List ℕ)) → fields (a ∷ others) ≡ a ++ after_spaces others
 one_more a [] = sym (append-nil a)
@@ -37,11 +37,11 @@ no_nodes nodes i past = ap (λ l. node_lines i (nodes_of l)) (drop_of_length-le 
 
 -- the greatest priority of those that are left is that of the next or of the others
 pub next_greatest : (nodes : List declared.Node.Node) (i : ℕ) (node : declared.Node.Node) → i < length nodes → node ≡ get_or nodes i node
-    → greatest_priority (nodes_of (drop i nodes)) ≡ max node.priority (greatest_priority (nodes_of (drop (i + 1) nodes)))
+    → greatest_node_priority (nodes_of (drop i nodes)) ≡ max node.priority (greatest_node_priority (nodes_of (drop (i + 1) nodes)))
 next_greatest nodes i node below at =
-    let first : greatest_priority (nodes_of (drop i nodes)) ≡ max (get_or nodes i node).priority (greatest_priority (nodes_of (drop (i + 1) nodes))) = rw
+    let first : greatest_node_priority (nodes_of (drop i nodes)) ≡ max (get_or nodes i node).priority (greatest_node_priority (nodes_of (drop (i + 1) nodes))) = rw
     (drop-cons nodes i node below, add-one i) refl in
-    first ∙ ap (λ (x : declared.Node.Node). max x.priority (greatest_priority (nodes_of (drop (i + 1) nodes)))) (sym at)
+    first ∙ ap (λ (x : declared.Node.Node). max x.priority (greatest_node_priority (nodes_of (drop (i + 1) nodes)))) (sym at)
 
-pub none_greatest : (nodes : List declared.Node.Node) (i : ℕ) → length nodes ≤ i → greatest_priority (nodes_of (drop i nodes)) ≡ 0
-none_greatest nodes i past = ap (λ l. greatest_priority (nodes_of l)) (drop_of_length-le nodes past)
+pub none_greatest : (nodes : List declared.Node.Node) (i : ℕ) → length nodes ≤ i → greatest_node_priority (nodes_of (drop i nodes)) ≡ 0
+none_greatest nodes i past = ap (λ l. greatest_node_priority (nodes_of l)) (drop_of_length-le nodes past)

@@ -3,13 +3,13 @@ use Rattle.std.proofs.Common.{◌≡◌, ◌≢◌, ℕ, ◌+◌, ◌<◌, ◌�
 use Rattle.std.specs.Prelude.{nat_lt, ◌==◌, if◌then◌else◌, slice_set, slice_index}
 use Rattle.std.proofs.lemmas.Bool.{lt-ltb, le-ltb}
 use Rattle.std.proofs.lemmas.List.{get_or-set_same, get_or-set_other}
-use Rattle.normal.specs.Tree.{Norm, Constant, Junction, Modality, Fixpoint, Variable, ConstantNode, JunctionNode, ModalityNode, FixpointNode, VariableNode}
-use Rattle.normal.specs.Tree.{size, chain, two}
-use Rattle.normal.specs.Nodes.{Node, Rule, nodes_by, greatest_nested, greatest_priority, parity_from}
-use Rattle.normal.specs.Rules.{names, above, rule_of}
+use Rattle.forms.specs.Tree.{Norm, Constant, Junction, Modality, Fixpoint, Variable, ConstantNode, JunctionNode, ModalityNode, FixpointNode, VariableNode}
+use Rattle.forms.specs.Tree.{size, chain, two}
+use Rattle.forms.specs.Nodes.{Node, Rule, nodes_by, greatest_nested, greatest_node_priority, parity_from}
+use Rattle.forms.specs.Rules.{names, above, rule_of}
 use Rattle.normal.specs.Surveys.{last_seen, open_at, opened, raised, chosen, past, AreBefore, Summarizes, IsFixpointOf, noted_rule, Surveys, closed}
-use Rattle.normal.specs.declared.priorities.Priorities.{Priorities}
-use Rattle.normal.specs.declared.priorities.Priorities.TheVariants.{Nested, Dependent}
+use Rattle.forms.specs.declared.priorities.Priorities.{Priorities}
+use Rattle.forms.specs.declared.priorities.Priorities.TheVariants.{Nested, Dependent}
 use Rattle.normal.specs.declared.survey.Open.{Open}
 use Rattle.normal.specs.declared.survey.Place.{Place}
 use Rattle.normal.specs.declared.survey.Summary.{Summary}
@@ -126,7 +126,7 @@ noted_agree t u at (Fixpoint flag f) h =
     λ i. record { shape = FixpointNode flag (at + 1); priority = e i } ∷ n i
 noted_agree t u at (Variable c) h = let e = h at (omega arith) (omega arith) in λ i. record { shape = VariableNode c; priority = e i } ∷ []
 
-pub greatest_append : (xs ys : List Node) → greatest_priority (xs ++ ys) ≡ max (greatest_priority xs) (greatest_priority ys)
+pub greatest_append : (xs ys : List Node) → greatest_node_priority (xs ++ ys) ≡ max (greatest_node_priority xs) (greatest_node_priority ys)
 greatest_append [] ys = omega arith
 greatest_append (x ∷ xs) ys = let e = greatest_append xs ys in omega arith
 
@@ -195,10 +195,10 @@ junction_surveys old mid one new place f g first second s h w v' is flag =
     in
     let by_right : nodes_by (noted_rule new.priorities) middle right ≡ nodes_by (rule_of old.rule) middle right = v.priorities
     ∙ ap (λ r. nodes_by (rule_of r) middle right) (w.rule ∙ h.rule) in
-    let first_greatest : first.greatest ≡ greatest_priority (nodes_by (rule_of old.rule) (at + 1) left) = w.summary.greatest
-    ∙ ap (λ r. greatest_priority (nodes_by (rule_of r) (at + 1) left)) h.rule in
-    let second_greatest : second.greatest ≡ greatest_priority (nodes_by (rule_of old.rule) middle right) = v.summary.greatest
-    ∙ ap (λ r. greatest_priority (nodes_by (rule_of r) middle right)) (w.rule ∙ h.rule) in
+    let first_greatest : first.greatest ≡ greatest_node_priority (nodes_by (rule_of old.rule) (at + 1) left) = w.summary.greatest
+    ∙ ap (λ r. greatest_node_priority (nodes_by (rule_of r) (at + 1) left)) h.rule in
+    let second_greatest : second.greatest ≡ greatest_node_priority (nodes_by (rule_of old.rule) middle right) = v.summary.greatest
+    ∙ ap (λ r. greatest_node_priority (nodes_by (rule_of r) middle right)) (w.rule ∙ h.rule) in
     record {
       priorities = λ i. record { shape = JunctionNode flag (at + 1) middle; priority = own i } ∷ (by_left i ++ by_right i);
       kept = λ k below. kept k (omega arith) ∙ (w.kept k (omega arith) ∙ leaf_kept old mid place h k below);
@@ -214,8 +214,8 @@ junction_surveys old mid one new place f g first second s h w v' is flag =
         nested = ap (λ (x : Summary). x.nested) is ∙ (λ j. max (w.summary.nested j) (v.summary.nested j));
         greatest = ap (λ (x : Summary). x.greatest) is ∙ ((λ j. max (first_greatest j) (second_greatest j))
             ∙ (sym (greatest_append (nodes_by (rule_of old.rule) (at + 1) left) (nodes_by (rule_of old.rule) middle right))
-            ∙ (none_first (greatest_priority (nodes_by (rule_of old.rule) (at + 1) left ++ nodes_by (rule_of old.rule) middle right))
-            ∙ (λ j. max (zero j) (greatest_priority (nodes_by (rule_of old.rule) (at + 1) left ++ nodes_by (rule_of old.rule) middle right))))));
+            ∙ (none_first (greatest_node_priority (nodes_by (rule_of old.rule) (at + 1) left ++ nodes_by (rule_of old.rule) middle right))
+            ∙ (λ j. max (zero j) (greatest_node_priority (nodes_by (rule_of old.rule) (at + 1) left ++ nodes_by (rule_of old.rule) middle right))))));
         from_least = ap (λ (x : Summary). x.from_least) is ∙ (λ j. max (w.summary.from_least j) (v.summary.from_least j));
         from_greatest = ap (λ (x : Summary). x.from_greatest) is ∙ (λ j. max (w.summary.from_greatest j) (v.summary.from_greatest j));
       };

@@ -4,27 +4,14 @@ use Rattle.std.specs.Prelude.{slice_index, vec_len}
 use Rattle.std.specs.Vec.{with_item}
 use Rattle.std.proofs.lemmas.List.{map-set, get_or-map, length-map}
 use Rattle.std.proofs.Math.Seq.{set-append_seam, get_or-append_seam}
-use Rattle.normal.specs.Tree.{Norm, Constant, Junction, Modality, Fixpoint, Variable, Shape, JunctionNode, size, two, preorder}
-use Rattle.normal.specs.Nodes.{Node, nodes_by, node_at}
+use Rattle.forms.specs.Tree.{Norm, Constant, Junction, Modality, Fixpoint, Variable, Shape, JunctionNode, size, two, preorder}
+use Rattle.forms.specs.Nodes.{Node, nodes_by, node_at}
 use Rattle.normal.specs.Surveys.{noted_rule}
-use Rattle.normal.specs.View.{shape_of, node_of, nodes_of}
+use Rattle.forms.specs.View.{shape_of, node_of, nodes_of}
 use Rattle.normal.specs.Writes.{Writes}
-use Rattle.normal.specs.declared.node as declared
+use Rattle.forms.specs.declared.node as declared
 use Rattle.normal.specs.declared.write.Preorder.{Preorder}
-
--- A tree has as many nodes as are listed.
-pub preorder_length : {A : Type 0} (say : ℕ → Norm → A) (at : ℕ) (f : Norm) → length (preorder say at f) ≡ size f
-preorder_length say at (Constant flag) = refl
-preorder_length say at (Junction flag f g) =
-    omega (
-      arith,
-      length-append (preorder say (at + 1) f) (preorder say (at + 1 + size f) g),
-      preorder_length say (at + 1) f,
-      preorder_length say (at + 1 + size f) g,
-    )
-preorder_length say at (Modality flag a f) = omega (arith, preorder_length say (at + 1) f)
-preorder_length say at (Fixpoint flag f) = omega (arith, preorder_length say (at + 1) f)
-preorder_length say at (Variable binder) = refl
+use Rattle.forms.proofs.Sizes.{preorder_length}
 
 -- these nodes follow the old ones
 abbrev Follows : List ℕ → (at : ℕ) (old new : List Node) → Norm → Type 0

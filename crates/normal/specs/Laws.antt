@@ -2,15 +2,15 @@
 use Rattle.std.specs.Prelude.{◌≡◌, ◌≤◌}
 use Rattle.std.specs.List.{AllZip}
 use Rattle.calculus.specs.Tree.{Formula}
-use Rattle.normal.specs.Tree.{size, node_count, depth, normal_form}
-use Rattle.normal.specs.Nodes.{greatest_priority}
-use Rattle.normal.specs.Rules.{nodes_with}
-use Rattle.normal.specs.declared.priorities.Priorities.{Priorities}
-use Rattle.normal.specs.declared.priorities.Priorities.TheVariants.{Nested, Dependent}
+use Rattle.forms.specs.Tree.{size, node_count, depth, normal_form}
+use Rattle.forms.specs.Nodes.{greatest_node_priority}
+use Rattle.forms.specs.Rules.{nodes_with}
+use Rattle.forms.specs.declared.priorities.Priorities.{Priorities}
+use Rattle.forms.specs.declared.priorities.Priorities.TheVariants.{Nested, Dependent}
 
 -- By either rule, no node's priority is above the length of the longest alternating chain.
 abbrev pub PriorityWithinDepth : Type 0
-PriorityWithinDepth = (priorities : Priorities) (f : Formula) → greatest_priority (nodes_with priorities f) ≤ depth (normal_form f)
+PriorityWithinDepth = (priorities : Priorities) (f : Formula) → greatest_node_priority (nodes_with priorities f) ≤ depth (normal_form f)
 
 abbrev pub CountIsSize : Type 0
 CountIsSize = (f : Formula) → node_count f ≡ size (normal_form f)

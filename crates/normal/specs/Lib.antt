@@ -1,10 +1,4 @@
-pub mod Tree
-pub mod Nodes
-pub mod Rules
 pub mod NormalText
-pub mod Form
-pub mod View
-pub mod Normal
 pub mod Part
 pub mod Surveys
 pub mod Writes

@@ -3,8 +3,8 @@ use Rattle.std.specs.Prelude.{ℕ, ◌+◌, List, [], ◌∷◌, ◌++◌, lengt
 use Rattle.std.specs.List.{join_with_byte}
 use Rattle.text.specs.Pieces.{line_end}
 use Rattle.calculus.specs.Canon.{action_text}
-use Rattle.normal.specs.Tree.{Shape, ConstantNode, JunctionNode, ModalityNode, FixpointNode, VariableNode}
-use Rattle.normal.specs.Nodes.{Node, greatest_priority}
+use Rattle.forms.specs.Tree.{Shape, ConstantNode, JunctionNode, ModalityNode, FixpointNode, VariableNode}
+use Rattle.forms.specs.Nodes.{Node, greatest_node_priority}
 
 -- fields, with one space between them
 abbrev pub fields : List (List ℕ) → List ℕ
@@ -43,7 +43,7 @@ node_lines k (node ∷ nodes) = node_line k node ++ node_lines (k + 1) nodes
 -- `nodes K priority P depth D`
 abbrev pub summary_line : List Node → ℕ → List ℕ
 summary_line nodes depth =
-    fields (codes "nodes" ∷ decimal (length nodes) ∷ codes "priority" ∷ decimal (greatest_priority nodes) ∷ codes "depth" ∷ decimal depth ∷ []) ++ line_end
+    fields (codes "nodes" ∷ decimal (length nodes) ∷ codes "priority" ∷ decimal (greatest_node_priority nodes) ∷ codes "depth" ∷ decimal depth ∷ []) ++ line_end
 
 -- the summary, and then a line for each node
 abbrev pub normal_text : List Node → ℕ → List ℕ

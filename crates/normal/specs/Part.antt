@@ -1,14 +1,14 @@
 -- What a part of a normal form stands for: a tree for each number that its first node may get.
 use Rattle.std.specs.Prelude.{ℕ, List}
 use Rattle.calculus.specs.View.{regular_of, formula_of}
-use Rattle.normal.specs.Tree.{Norm, Variable, two, modal, loop_of, with_binder, norm}
-use Rattle.normal.specs.declared.part.Scope.{Scope}
-use Rattle.normal.specs.declared.part.Scope.TheVariants as scope
+use Rattle.forms.specs.Tree.{Norm, Variable, two, modal, loop_of, with_binder, norm}
+use Rattle.normal.specs.declared.part.NumberedScope.{NumberedScope}
+use Rattle.normal.specs.declared.part.NumberedScope.TheVariants as scope
 use Rattle.normal.specs.declared.part.Part.{Part}
 use Rattle.normal.specs.declared.part.Part.TheVariants as part
 
 -- the number of each variable's innermost binder
-abbrev pub binders_of : Scope → List ℕ → ℕ
+abbrev pub binders_of : NumberedScope → List ℕ → ℕ
 binders_of scope.Empty other = 0
 binders_of (scope.Binder' name number p outer) other = with_binder (binders_of outer) name.now number other
 

@@ -1,20 +1,20 @@
 -- When a formula has no normal form within the limits.
 use Rattle.std.specs.Prelude.{◌≤◌, ◌<◌}
 use Rattle.calculus.specs.Tree.{Formula}
-use Rattle.normal.specs.Tree.{node_count}
-use Rattle.normal.specs.Nodes.{greatest_priority}
-use Rattle.normal.specs.Rules.{nodes_with}
-use Rattle.normal.specs.declared.limits.TheConstants.{MOST_NODES, GREATEST_PRIORITY}
+use Rattle.forms.specs.Tree.{node_count}
+use Rattle.forms.specs.Nodes.{greatest_node_priority}
+use Rattle.forms.specs.Rules.{nodes_with}
+use Rattle.forms.specs.declared.limits.TheConstants.{MOST_NODES, GREATEST_PRIORITY}
 use Rattle.normal.specs.declared.error.NormalError.{NormalError}
 use Rattle.normal.specs.declared.error.NormalError.TheVariants.{TooManyNodes, PriorityTooGreat, Memory}
-use Rattle.normal.specs.declared.priorities.Priorities.{Priorities}
-use Rattle.normal.specs.declared.priorities.Priorities.TheVariants.{Nested}
+use Rattle.forms.specs.declared.priorities.Priorities.{Priorities}
+use Rattle.forms.specs.declared.priorities.Priorities.TheVariants.{Nested}
 
 -- The count decides first, and then the greatest priority. Memory is wanted only where neither is above its limit.
 abbrev pub HasRefusalWith : Priorities → Formula → NormalError → Type 0
 HasRefusalWith priorities f TooManyNodes = MOST_NODES < node_count f
-HasRefusalWith priorities f PriorityTooGreat = (node_count f ≤ MOST_NODES) × (GREATEST_PRIORITY < greatest_priority (nodes_with priorities f))
-HasRefusalWith priorities f Memory = (node_count f ≤ MOST_NODES) × (greatest_priority (nodes_with priorities f) ≤ GREATEST_PRIORITY)
+HasRefusalWith priorities f PriorityTooGreat = (node_count f ≤ MOST_NODES) × (GREATEST_PRIORITY < greatest_node_priority (nodes_with priorities f))
+HasRefusalWith priorities f Memory = (node_count f ≤ MOST_NODES) × (greatest_node_priority (nodes_with priorities f) ≤ GREATEST_PRIORITY)
 
 -- the same with the nested priorities
 abbrev pub HasRefusal : Formula → NormalError → Type 0

@@ -1,10 +1,10 @@
 -- What a survey of a part finds: the priorities of its nodes, and what the binders around it have to know of it.
 use Rattle.std.specs.Prelude.{◌≡◌, ℕ, ◌+◌, ◌<◌, max, Bool, true, false, List, slice_index, slice_index_or, nat_lt, ◌==◌, if◌then◌else◌}
-use Rattle.normal.specs.Tree.{Norm, Constant, Junction, Modality, Fixpoint, Variable, size, chain}
-use Rattle.normal.specs.Nodes.{Rule, nodes_by, greatest_nested, greatest_priority, parity_from}
-use Rattle.normal.specs.Rules.{above, rule_of}
-use Rattle.normal.specs.declared.priorities.Priorities.{Priorities}
-use Rattle.normal.specs.declared.priorities.Priorities.TheVariants.{Nested, Dependent}
+use Rattle.forms.specs.Tree.{Norm, Constant, Junction, Modality, Fixpoint, Variable, size, chain}
+use Rattle.forms.specs.Nodes.{Rule, nodes_by, greatest_nested, greatest_node_priority, parity_from}
+use Rattle.forms.specs.Rules.{above, rule_of}
+use Rattle.forms.specs.declared.priorities.Priorities.{Priorities}
+use Rattle.forms.specs.declared.priorities.Priorities.TheVariants.{Nested, Dependent}
 use Rattle.normal.specs.declared.survey.Open.{Open}
 use Rattle.normal.specs.declared.survey.Place.{Place}
 use Rattle.normal.specs.declared.survey.Summary.{Summary}
@@ -54,7 +54,7 @@ AreBefore opens level at = (i : ℕ) → i < level → (open_at opens i).last < 
 pub record Summarizes (rule : Rule) (at : ℕ) (f : Norm) (s : Summary) : Type 0 where
   pub next : s.next ≡ at + size f
   pub nested : s.nested ≡ greatest_nested f
-  pub greatest : s.greatest ≡ greatest_priority (nodes_by rule at f)
+  pub greatest : s.greatest ≡ greatest_node_priority (nodes_by rule at f)
   pub from_least : s.from_least ≡ chain f true
   pub from_greatest : s.from_greatest ≡ chain f false
 

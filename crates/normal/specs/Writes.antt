@@ -1,9 +1,9 @@
 -- What writing the nodes of a part does.
 use Rattle.std.specs.Prelude.{◌≡◌, vec_len, ◌++◌}
-use Rattle.normal.specs.Tree.{Norm}
-use Rattle.normal.specs.Nodes.{nodes_by}
+use Rattle.forms.specs.Tree.{Norm}
+use Rattle.forms.specs.Nodes.{nodes_by}
 use Rattle.normal.specs.Surveys.{noted_rule}
-use Rattle.normal.specs.View.{nodes_of}
+use Rattle.forms.specs.View.{nodes_of}
 use Rattle.normal.specs.declared.write.Preorder.{Preorder}
 
 -- The nodes of the tree follow the old ones, each with the priority of its number, and the priorities stay.

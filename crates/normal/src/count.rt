@@ -2,10 +2,10 @@
 
 ghost use Rattle.std.specs.Prelude.{◌≡◌, ◌<◌, ◌≤◌, MatchOption};
 ghost use Rattle.calculus.specs.View.{regular_of, formula_of};
-ghost use Rattle.normal.specs.Tree.{node_count as count_of, modal_count as modal_count_of};
+ghost use Rattle.forms.specs.Tree.{node_count as count_of, modal_count as modal_count_of};
 
-use crate::limits::MOST_NODES;
 use calculus::tree::{Reg, State};
+use forms::limits::MOST_NODES;
 
 // The number, where it is within the limit.
 fn within(number: u32) -> Option<u32>
@@ -20,23 +20,23 @@ fn within(number: u32) -> Option<u32>
 
 /// How many nodes the normal form has, or nothing where there are more than the limit allows. It stops where the limit is passed.
 #[tactic(auto, using(crate::proofs::Counts::modal_count_grows))]
-pub fn count(formula: &State) -> Option<u32>
+pub fn counted_nodes(formula: &State) -> Option<u32>
     ensures { MatchOption result (MOST_NODES < count_of (formula_of formula.now)) (λ n. (n ≡ count_of (formula_of formula.now)) × (n ≤ MOST_NODES)) }
 {
     match formula {
         State::True | State::False | State::Var(_) => Some(1),
-        State::Not(f) => count(f),
+        State::Not(f) => counted_nodes(f),
         State::And(f, g) | State::Or(f, g) | State::Implies(f, g) => {
-            let left = count(f)?;
-            let right = count(g)?;
+            let left = counted_nodes(f)?;
+            let right = counted_nodes(g)?;
             within(1 + left + right)
         }
         State::Dia(r, f) | State::Box(r, f) => {
-            let operand = count(f)?;
+            let operand = counted_nodes(f)?;
             modal_count(r, operand)
         }
         State::Mu(_, f) | State::Nu(_, f) => {
-            let operand = count(f)?;
+            let operand = counted_nodes(f)?;
             within(1 + operand)
         }
     }

@@ -1,16 +1,14 @@
-// The normal form of a formula.
+// The normal form of a formula. It offers normal forms themselves under its own name.
 #![tactic(auto)]
 
 mod action;
 pub mod count;
 pub mod error;
-pub mod form;
 pub mod law;
-pub mod limits;
 pub mod make;
-pub mod node;
 mod part;
 pub mod printer;
-pub mod priorities;
 mod survey;
 mod write;
+
+pub use forms::{form, limits, node, priorities};

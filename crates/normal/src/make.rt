@@ -2,21 +2,21 @@
 
 ghost use Rattle.std.specs.Prelude.{◌≡◌, ◌≤◌, max, IfOk, OnOk, IfErr};
 ghost use Rattle.calculus.specs.Closed.{closed_formula};
-ghost use Rattle.normal.specs.Tree.{node_count as count_of, depth, normal_form};
-ghost use Rattle.normal.specs.Nodes.{nodes, greatest_priority};
-ghost use Rattle.normal.specs.Rules.{nodes_with};
-ghost use Rattle.normal.specs.Normal.{normal_nodes, normal_depth};
+ghost use Rattle.forms.specs.Tree.{node_count as count_of, depth, normal_form};
+ghost use Rattle.forms.specs.Nodes.{nodes, greatest_node_priority};
+ghost use Rattle.forms.specs.Rules.{nodes_with};
+ghost use Rattle.forms.specs.Normal.{normal_nodes, normal_depth};
 ghost use Rattle.normal.specs.Refused.{HasRefusal, HasRefusalWith};
 
-use crate::count::count;
+use crate::count::counted_nodes;
 use crate::error::NormalError;
-use crate::form::Normal;
-use crate::limits::{GREATEST_PRIORITY, MOST_NODES};
-use crate::part::{Part, Scope};
-use crate::priorities::Priorities;
+use crate::part::{NumberedScope, Part};
 use crate::survey::{Place, Survey};
 use crate::write::Preorder;
 use calculus::closed::Closed;
+use forms::form::Normal;
+use forms::limits::{GREATEST_PRIORITY, MOST_NODES};
+use forms::priorities::Priorities;
 use std::alloc::Global;
 
 /// The normal form of a formula with the nested priorities. Negations go down to the action formulas, and iterations become
@@ -28,7 +28,7 @@ pub fn normal(alloc: Global, formula: &Closed) -> Result<Normal, NormalError>
     ensures nodes { IfOk result (λ n. normal_nodes n ≡ nodes (closed_formula formula.now)) }
     ensures depth { IfOk result (λ n. normal_depth n ≡ depth (normal_form (closed_formula formula.now))) }
     ensures count { OnOk result (count_of (closed_formula formula.now) ≤ MOST_NODES) }
-    ensures low { OnOk result (greatest_priority (nodes (closed_formula formula.now)) ≤ GREATEST_PRIORITY) }
+    ensures low { OnOk result (greatest_node_priority (nodes (closed_formula formula.now)) ≤ GREATEST_PRIORITY) }
     ensures refused { IfErr result (HasRefusal (closed_formula formula.now)) }
 {
     normal_with(alloc, formula, Priorities::Nested)
@@ -47,14 +47,14 @@ pub fn normal_with(
     ensures nodes { IfOk result (λ n. normal_nodes n ≡ nodes_with priorities (closed_formula formula.now)) }
     ensures depth { IfOk result (λ n. normal_depth n ≡ depth (normal_form (closed_formula formula.now))) }
     ensures count { OnOk result (count_of (closed_formula formula.now) ≤ MOST_NODES) }
-    ensures low { OnOk result (greatest_priority (nodes_with priorities (closed_formula formula.now)) ≤ GREATEST_PRIORITY) }
+    ensures low { OnOk result (greatest_node_priority (nodes_with priorities (closed_formula formula.now)) ≤ GREATEST_PRIORITY) }
     ensures refused { IfErr result (HasRefusalWith priorities (closed_formula formula.now)) }
 {
     let tree = formula.tree();
-    if count(tree).is_none() {
+    if counted_nodes(tree).is_none() {
         return Err(NormalError::TooManyNodes);
     }
-    let part = Part::Formula(true, tree, &Scope::Empty);
+    let part = Part::Formula(true, tree, &NumberedScope::Empty);
     let mut survey = Survey::new(priorities);
     let summary = survey.part(Place::ROOT, &part);
     if summary.greatest > GREATEST_PRIORITY {

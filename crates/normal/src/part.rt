@@ -6,9 +6,9 @@ use calculus::tree::{Reg, State};
 
 /// The binders around a place, the innermost first, with the numbers of their nodes.
 #[derive(Clone, Copy)]
-pub enum Scope<'a> {
+pub enum NumberedScope<'a> {
     Empty,
-    Binder(&'a [u8], u32, &'a Scope<'a>),
+    Binder(&'a [u8], u32, &'a NumberedScope<'a>),
 }
 
 /// A part of a normal form, as a function of the number that its first node gets. Where the flag is false, it is negated.
@@ -17,7 +17,7 @@ pub enum Part<'a> {
     /// A variable, by the number of its binder.
     Variable(u32),
     /// A formula in a scope.
-    Formula(bool, &'a State, &'a Scope<'a>),
+    Formula(bool, &'a State, &'a NumberedScope<'a>),
     /// Two operands.
     Two(bool, &'a Part<'a>, &'a Part<'a>),
     /// A modality with its operand.
@@ -29,12 +29,12 @@ pub enum Part<'a> {
 ghost use Rattle.normal.specs.Part.{binders_of};
 
 /// The number of the innermost binder of this name, or 0.
-pub fn binder_of<'a>(scope: &Scope<'a>, name: &[u8]) -> u32
+pub fn binder_of<'a>(scope: &NumberedScope<'a>, name: &[u8]) -> u32
     ensures { result ≡ binders_of scope.now name.now }
 {
     match scope {
-        Scope::Empty => 0,
-        Scope::Binder(bound, number, outer) => {
+        NumberedScope::Empty => 0,
+        NumberedScope::Binder(bound, number, outer) => {
             if name == *bound {
                 *number
             } else {

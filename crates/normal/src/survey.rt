@@ -3,15 +3,15 @@
 ghost use Rattle.std.specs.Prelude.{◌≡◌, ℕ, ◌+◌, ◌<◌, ◌≤◌, ◌^◌, max, ◌≢◌, Bool, true, length, slice_index, slice_set};
 ghost use Rattle.calculus.specs.View.{regular_of, formula_of};
 ghost use Rattle.calculus.specs.Tree.{Action};
-ghost use Rattle.normal.specs.Tree.{Variable, Modality, Fixpoint, size, two, modal, loop_of, norm};
-ghost use Rattle.normal.specs.Nodes.{parity_from};
+ghost use Rattle.forms.specs.Tree.{Variable, Modality, Fixpoint, size, two, modal, loop_of, norm};
+ghost use Rattle.forms.specs.Nodes.{parity_from};
 ghost use Rattle.normal.specs.Part.{tree_of, binders_of};
 ghost use Rattle.normal.specs.Surveys.{open_at, opened, seen_open, raised, chosen, IsFixpointOf, AreBefore, Surveys};
 
-use crate::limits::MOST_NODES;
-use crate::part::{Part, Scope, binder_of};
-use crate::priorities::Priorities;
+use crate::part::{NumberedScope, Part, binder_of};
 use calculus::tree::{Reg, State};
+use forms::limits::MOST_NODES;
+use forms::priorities::Priorities;
 
 /// A binder whose operand is being surveyed.
 #[derive(Clone, Copy)]
@@ -244,7 +244,7 @@ impl Survey {
         place: Place,
         flag: bool,
         formula: &'a State,
-        scope: &'a Scope<'a>,
+        scope: &'a NumberedScope<'a>,
     ) -> Summary
         requires room { place.at + size (norm flag (binders_of scope.now) (formula_of formula.now) place.at) ≤ MOST_NODES }
         requires level { place.level ≤ place.at }
@@ -270,11 +270,11 @@ impl Survey {
             State::Dia(r, f) => self.modal(place, flag, r, &Part::Formula(flag, f, scope)),
             State::Box(r, f) => self.modal(place, !flag, r, &Part::Formula(flag, f, scope)),
             State::Mu(name, f) => {
-                let scope = Scope::Binder(name, place.at, scope);
+                let scope = NumberedScope::Binder(name, place.at, scope);
                 self.fixpoint(place, flag, &Part::Formula(flag, f, &scope))
             }
             State::Nu(name, f) => {
-                let scope = Scope::Binder(name, place.at, scope);
+                let scope = NumberedScope::Binder(name, place.at, scope);
                 self.fixpoint(place, !flag, &Part::Formula(flag, f, &scope))
             }
         }

@@ -2,16 +2,16 @@
 
 ghost use Rattle.std.specs.Prelude.{◌≡◌, ◌+◌, ◌<◌, ◌≤◌, ◌++◌, ◌∷◌, [], slice_index, vec_len, OnOk};
 ghost use Rattle.calculus.specs.View.{action_of, regular_of, formula_of};
-ghost use Rattle.normal.specs.Tree.{size, two, modal, loop_of, norm, Modality, Fixpoint, ConstantNode, JunctionNode, ModalityNode, FixpointNode};
-ghost use Rattle.normal.specs.View.{shape_of, nodes_of};
+ghost use Rattle.forms.specs.Tree.{size, two, modal, loop_of, norm, Modality, Fixpoint, ConstantNode, JunctionNode, ModalityNode, FixpointNode};
+ghost use Rattle.forms.specs.View.{shape_of, nodes_of};
 ghost use Rattle.normal.specs.Part.{tree_of, binders_of};
 ghost use Rattle.normal.specs.Writes.{Writes};
 
 use crate::action::copied_action;
-use crate::limits::MOST_NODES;
-use crate::node::{Kind, Node};
-use crate::part::{Part, Scope, binder_of};
+use crate::part::{NumberedScope, Part, binder_of};
 use calculus::tree::{Act, Reg, State};
+use forms::limits::MOST_NODES;
+use forms::node::{Kind, Node};
 use std::alloc::{AllocError, Global};
 
 fn constant(flag: bool) -> Kind
@@ -106,7 +106,7 @@ impl<'p> Preorder<'p> {
         &mut self,
         flag: bool,
         formula: &'a State,
-        scope: &'a Scope<'a>,
+        scope: &'a NumberedScope<'a>,
     ) -> Result<(), AllocError>
         requires { vec_len self.old.nodes + size (norm flag (binders_of scope.now) (formula_of formula.now) (vec_len self.old.nodes)) ≤ MOST_NODES }
         ensures { OnOk result (Writes self.old self.new (norm flag (binders_of scope.now) (formula_of formula.now) (vec_len self.old.nodes))) }
@@ -132,11 +132,11 @@ impl<'p> Preorder<'p> {
             State::Dia(r, f) => self.modal(flag, r, &Part::Formula(flag, f, scope)),
             State::Box(r, f) => self.modal(!flag, r, &Part::Formula(flag, f, scope)),
             State::Mu(name, f) => {
-                let scope = Scope::Binder(name, at, scope);
+                let scope = NumberedScope::Binder(name, at, scope);
                 self.fixpoint(flag, &Part::Formula(flag, f, &scope))
             }
             State::Nu(name, f) => {
-                let scope = Scope::Binder(name, at, scope);
+                let scope = NumberedScope::Binder(name, at, scope);
                 self.fixpoint(!flag, &Part::Formula(flag, f, &scope))
             }
         }

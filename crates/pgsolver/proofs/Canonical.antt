@@ -12,14 +12,14 @@ use Rattle.text.proofs.Plain.{plain, first_line, numeral, over, over_rest, space
 use Rattle.text.proofs.Spaced.{numeral_digits}
 use Rattle.systems.specs.Label.{is_label_byte}
 use Rattle.lts.proofs.Canonical.{label_bytes}
-use Rattle.normal.specs.declared.limits.TheConstants.{GREATEST_PRIORITY}
+use Rattle.forms.specs.declared.limits.TheConstants.{GREATEST_PRIORITY}
 use Rattle.game.specs.declared.player.Player.{Player}
 use Rattle.game.specs.declared.player.Player.TheVariants.{Even, Odd}
 use Rattle.game.specs.declared.limits.TheConstants.{MOST_VERTICES}
 use Rattle.game.specs.Game.{Vertex, Game, IsGame, IsVertex, IsAscending, greatest, greatest_of}
 use Rattle.game.specs.NumberSet.{number_set}
 use Rattle.pgsolver.specs.Canon.{game_header_line, owner_digit, front_text, successors_text, vertex_name, name_text, vertex_lines, game_text}
-use Rattle.pgsolver.specs.Spelling.{VertexLine, IsHeader, IsLine, IsLineWithin, IsName, is_vertex_name, name_tokens, with_commas, IsGameText, vertex_said}
+use Rattle.pgsolver.specs.Spelling.{VertexLine, IsPgHeader, IsLine, IsLineWithin, IsName, is_vertex_name, name_tokens, with_commas, IsGameText, vertex_said}
 use Rattle.pgsolver.proofs.Sets.{up_set, up_ascending}
 
 abbrev Tokens : Type 0
@@ -30,7 +30,7 @@ Tokens = List (List ℕ)
 abbrev header_body : ℕ → List ℕ
 header_body n = codes "parity " ++ (decimal n ++ codes ";")
 
-header_is : (n : ℕ) → n < 2 ^ 64 → IsHeader (header_body n) n
+header_is : (n : ℕ) → n < 2 ^ 64 → IsPgHeader (header_body n) n
 header_is n small = (decimal n, numeral n small, ([], 32 ∷ (decimal n ++ codes ";"), refl, refl, (32 ∷ [], codes ";", refl, refl, spaced (codes ";" ∷ []))))
 
 header_plain : (n : ℕ) → n < 2 ^ 64 → list_all plain (header_body n) ≡ true

@@ -9,14 +9,14 @@ use Rattle.std.proofs.lemmas.List.Elements.{Contains-get_or}
 use Rattle.std.proofs.lemmas.List.Quantifiers.{all_pairs_push}
 use Rattle.text.specs.Text.{lines}
 use Rattle.systems.proofs.Ordered.{Contains-from_Has, Has, Has-from_Contains, all_has}
-use Rattle.normal.specs.declared.limits.TheConstants.{GREATEST_PRIORITY}
+use Rattle.forms.specs.declared.limits.TheConstants.{GREATEST_PRIORITY}
 use Rattle.game.specs.Game.{Game, Vertex}
 use Rattle.game.specs.declared.limits.TheConstants.{MOST_VERTICES}
 use Rattle.game.specs.declared.player.Player.TheVariants.{Even}
 use Rattle.text.specs.Tokens.{capped}
-use Rattle.pgsolver.specs.Fault.{BodyFault, HasBadSuccessor, HasFault, IsBadId, LineFault}
+use Rattle.pgsolver.specs.Fault.{PgBodyFault, HasBadSuccessor, HasPgFault, IsBadId, PgLineFault}
 use Rattle.pgsolver.specs.Scan.{header_at, line_at}
-use Rattle.pgsolver.specs.Spelling.{AreGoodLines, IsGameText, IsHeader, IsLine, IsLineWithin, VertexLine, vertex_said}
+use Rattle.pgsolver.specs.Spelling.{AreGoodLines, IsGameText, IsPgHeader, IsLine, IsLineWithin, VertexLine, vertex_said}
 use Rattle.pgsolver.specs.declared.error.PgFault.{PgFault}
 use Rattle.pgsolver.specs.declared.error.PgFault.TheVariants.{BadHeader, BadIdentifier, BadLine, BadSuccessor, PriorityTooGreat, TooManyVertices}
 use Rattle.pgsolver.proofs.Judging.{bad_line}
@@ -52,15 +52,15 @@ module _ (n : ℕ) where
   -- a line behind others
   data Judged (before : List VertexLine) (line : List ℕ) : Type 0 where
     fine : (x : VertexLine) → IsLine line x → IsLineWithin n x → ((y : VertexLine) → Contains before y → y.id ≡ x.id → ⊥) → Judged before line
-    no_line : LineFault n before line BadLine → Judged before line
-    no_id : LineFault n before line BadIdentifier → Judged before line
-    no_successor : LineFault n before line BadSuccessor → Judged before line
-    no_priority : LineFault n before line PriorityTooGreat → Judged before line
+    no_line : PgLineFault n before line BadLine → Judged before line
+    no_id : PgLineFault n before line BadIdentifier → Judged before line
+    no_successor : PgLineFault n before line BadSuccessor → Judged before line
+    no_priority : PgLineFault n before line PriorityTooGreat → Judged before line
 
   -- all lines say what they should, as many as there should be, or a fault decides
   data Rest (rest : List (List ℕ)) : Type 0 where
     all : (spelled : List VertexLine) → AreGoodLines n rest spelled → length rest ≡ n + 1 → Rest rest
-    wrong : (fault : PgFault) (good : ℕ) → BodyFault n rest fault good → Rest rest
+    wrong : (fault : PgFault) (good : ℕ) → PgBodyFault n rest fault good → Rest rest
 
   module _ (before : List VertexLine) (line : List ℕ) where
     module _ (x : VertexLine) (is : IsLine line x) (low : x.id ≤ n) (free : (y : VertexLine) → Contains before y → y.id ≡ x.id → ⊥) where
@@ -198,7 +198,7 @@ values_at f v (suc count) (suc k) inside =
     let same : v + 1 + k ≡ v + suc k = omega arith in
     values_at f (v + 1) count k (omega (arith, inside)) ∙ ap (λ u. Some (f u)) same
 
-spelled_by : (text first : List ℕ) (rest : List (List ℕ)) (n : ℕ) (spelled : List VertexLine) → lines text ≡ first ∷ rest → IsHeader first n → n < MOST_VERTICES
+spelled_by : (text first : List ℕ) (rest : List (List ℕ)) (n : ℕ) (spelled : List VertexLine) → lines text ≡ first ∷ rest → IsPgHeader first n → n < MOST_VERTICES
     → AreGoodLines n rest spelled → length rest ≡ n + 1
     → IsGameText text (record { vertices = values (pick spelled) 0 (n + 1); named = None })
 spelled_by text first rest n spelled cut header limit good complete = record {
@@ -223,9 +223,9 @@ spelled_by text first rest n spelled cut header limit good complete = record {
 -- ---- the whole text
 
 abbrev Decided : List ℕ → Type 0
-Decided text = ((g : Game) × IsGameText text g) ⊎ ((fault : PgFault) × (line : ℕ) × HasFault text fault line)
+Decided text = ((g : Game) × IsGameText text g) ⊎ ((fault : PgFault) × (line : ℕ) × HasPgFault text fault line)
 
-by_rest : (text first : List ℕ) (rest : List (List ℕ)) (n : ℕ) → lines text ≡ first ∷ rest → IsHeader first n → n < MOST_VERTICES → Rest n rest → Decided text
+by_rest : (text first : List ℕ) (rest : List (List ℕ)) (n : ℕ) → lines text ≡ first ∷ rest → IsPgHeader first n → n < MOST_VERTICES → Rest n rest → Decided text
 by_rest text first rest n cut header limit (all spelled good complete) =
     inl (record { vertices = values (pick spelled) 0 (n + 1); named = None }, spelled_by text first rest n spelled cut header limit good complete)
 by_rest text first rest n cut header limit (wrong fault good bad) = inr (fault, good + 2, inr (first, rest, n, good, cut, header, limit, bad, refl))
@@ -236,10 +236,10 @@ heads x y xs ys e = cc
 by_header : (text first : List ℕ) (rest : List (List ℕ)) → lines text ≡ first ∷ rest → (o : Option ℕ) → header_at first ≡ o → Decided text
 by_header text first rest cut None none = inr (BadHeader, 1, inl (headless, refl))
   where
-    headless : (other : List ℕ) (others : List (List ℕ)) (n : ℕ) → lines text ≡ other ∷ others → IsHeader other n → ⊥
+    headless : (other : List ℕ) (others : List (List ℕ)) (n : ℕ) → lines text ≡ other ∷ others → IsPgHeader other n → ⊥
     headless other others n is header =
         let same = heads other first others rest (sym is ∙ cut) in
-        let some = header_finds first n (subst (λ l. IsHeader l n) same header) in
+        let some = header_finds first n (subst (λ l. IsPgHeader l n) same header) in
         let q : None ≡ Some (capped n) = sym none ∙ some in cc
 by_header text first rest cut (Some v) found =
     let (n, header, same) = header_gives first v found in

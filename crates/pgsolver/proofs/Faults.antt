@@ -13,8 +13,8 @@ use Rattle.game.specs.declared.limits.TheConstants.{MOST_VERTICES}
 use Rattle.game.specs.Game.{Game}
 use Rattle.pgsolver.specs.declared.error.PgFault.{PgFault}
 use Rattle.pgsolver.specs.declared.error.PgFault.TheVariants.{BadHeader, BadLine, BadIdentifier, BadSuccessor, PriorityTooGreat, TooManyVertices}
-use Rattle.pgsolver.specs.Spelling.{VertexLine, IsHeader, IsLine, IsLineWithin, AreGoodLines, IsGameText}
-use Rattle.pgsolver.specs.Fault.{IsBadId, HasBadSuccessor, LineFault, HeaderFault, FaultyLine, BodyFault, HasFault}
+use Rattle.pgsolver.specs.Spelling.{VertexLine, IsPgHeader, IsLine, IsLineWithin, AreGoodLines, IsGameText}
+use Rattle.pgsolver.specs.Fault.{IsBadId, HasBadSuccessor, PgLineFault, PgHeaderFault, FaultyLine, PgBodyFault, HasPgFault}
 use Rattle.pgsolver.specs.Left.{has_far}
 use Rattle.pgsolver.proofs.Judging.{far_one}
 use Rattle.pgsolver.proofs.Placing.{Differ, differ_rest, differ_first}
@@ -63,7 +63,7 @@ no_bad_id n before x h apart (inl high) = omega (arith, h.id, high)
 no_bad_id n before x h apart (inr (y, there, e)) = apart y (Has-from_Contains before y there) e
 
 no_line : (n : ℕ) (before : List VertexLine) (line : List ℕ) (x : VertexLine) (fault : PgFault) → n < MOST_VERTICES → IsLine line x → IsLineWithin n x
-    → ((y : VertexLine) → Has before y → y.id ≡ x.id → ⊥) → LineFault n before line fault → ⊥
+    → ((y : VertexLine) → Has before y → y.id ≡ x.id → ⊥) → PgLineFault n before line fault → ⊥
 no_line n before line x BadLine small is within apart wrong = wrong x is
 no_line n before line x BadIdentifier small is within apart (y, same, bad) = no_bad_id n before x within apart
     (subst (IsBadId n before) (line_same n line x y small within is same) bad)
@@ -76,11 +76,11 @@ no_line n before line x TooManyVertices small is within apart wrong = wrong
 
 -- a faulty line is not among good ones
 no_among : (n : ℕ) (front : List (List ℕ)) (line : List ℕ) (back : List (List ℕ)) (spelled before : List VertexLine) (fault : PgFault) → n < MOST_VERTICES
-    → AreGoodLines n (front ++ line ∷ back) spelled → AreGoodLines n front before → LineFault n before line fault → ⊥
+    → AreGoodLines n (front ++ line ∷ back) spelled → AreGoodLines n front before → PgLineFault n before line fault → ⊥
 no_among n front line back spelled before fault small good goods wrong =
     let h = among n front line back spelled good.each good.within good.once in
     let same : before ≡ h.before = lines_are n front h.before before small h.within_before h.each goods.each in
-    no_line n h.before line h.x fault small h.is h.within h.apart (subst (λ b. LineFault n b line fault) same wrong)
+    no_line n h.before line h.x fault small h.is h.within h.apart (subst (λ b. PgLineFault n b line fault) same wrong)
 
 -- ---- what decides
 
@@ -93,7 +93,7 @@ record IsStop (n : ℕ) (rest : List (List ℕ)) (fault : PgFault) (good : ℕ) 
   goods : AreGoodLines n front before
   long : length front ≡ good
   why : ((fault ≡ BadIdentifier) × (back ≡ []) × (good < n + 1))
-      ⊎ ((line : List ℕ) × (after : List (List ℕ)) × (back ≡ line ∷ after) × LineFault n before line fault)
+      ⊎ ((line : List ℕ) × (after : List (List ℕ)) × (back ≡ line ∷ after) × PgLineFault n before line fault)
 
 stop_line : (n : ℕ) (rest : List (List ℕ)) (fault : PgFault) (good : ℕ) → FaultyLine n rest fault good → IsStop n rest fault good
 stop_line n rest fault good h = record {
@@ -106,7 +106,7 @@ stop_line n rest fault good h = record {
   why = inr (h.line, h.back, refl, h.wrong);
 }
 
-stop_of : (n : ℕ) (rest : List (List ℕ)) (fault : PgFault) (good : ℕ) → BodyFault n rest fault good → IsStop n rest fault good
+stop_of : (n : ℕ) (rest : List (List ℕ)) (fault : PgFault) (good : ℕ) → PgBodyFault n rest fault good → IsStop n rest fault good
 stop_of n rest BadIdentifier good (inl h) = stop_line n rest BadIdentifier good h
 stop_of n rest BadIdentifier good (inr h) =
     record {
@@ -130,18 +130,18 @@ no_body n rest spelled fault good small all count stop =
           (subst (λ l. AreGoodLines n l spelled) (stop.split ∙ ap (λ l. stop.front ++ l) w.2) all) stop.goods w.3
     ]
 
-no_first : (text : List ℕ) (g : Game) (fault : PgFault) → IsGameText text g → HeaderFault (lines text) fault → ⊥
+no_first : (text : List ℕ) (g : Game) (fault : PgFault) → IsGameText text g → PgHeaderFault (lines text) fault → ⊥
 no_first text g BadHeader a wrong = wrong a.first a.rest a.n a.cut a.header
 no_first text g TooManyVertices a (first, rest, n, cut, header, over) =
     let same = lines_same first a.first rest a.rest (sym cut ∙ a.cut) in
-    let e = header_same a.first n a.n (subst (λ l. IsHeader l n) same.0 header) a.header in
+    let e = header_same a.first n a.n (subst (λ l. IsPgHeader l n) same.0 header) a.header in
     omega (arith, e, a.limit, over)
 no_first text g BadLine a wrong = wrong
 no_first text g BadIdentifier a wrong = wrong
 no_first text g BadSuccessor a wrong = wrong
 no_first text g PriorityTooGreat a wrong = wrong
 
-pub no_fault : (text : List ℕ) (g : Game) (fault : PgFault) (line : ℕ) → IsGameText text g → HasFault text fault line → ⊥
+pub no_fault : (text : List ℕ) (g : Game) (fault : PgFault) (line : ℕ) → IsGameText text g → HasPgFault text fault line → ⊥
 no_fault text g fault line a (inl (wrong, place)) = no_first text g fault a wrong
 no_fault text g fault line a (inr (first, rest, n, good, cut, header, small, body, place)) =
     let (same_n, same_rest) = text_same text g a first rest n cut header small in
@@ -183,7 +183,7 @@ bad_alike n before line x y small within h k (inr (z, there, same)) =
     inr (z, there, omega (arith, e, low, same))
 
 module _ (n : ℕ) (before : List VertexLine) (line : List ℕ) (small : n < MOST_VERTICES) (within : AllByRecursion (IsLineWithin n) before) where
-  one_line : (f g : PgFault) → LineFault n before line f → LineFault n before line g → f ≡ g
+  one_line : (f g : PgFault) → PgLineFault n before line f → PgLineFault n before line g → f ≡ g
   one_line BadLine BadLine p q = refl
   one_line BadLine BadIdentifier p (y, is, more) = absurd (p y is)
   one_line BadLine BadSuccessor p q = absurd (p q.0 q.1)
@@ -255,19 +255,19 @@ one_body n rest f g i j small p q =
         | inl k ↦ absurd (omega (arith, ap length k.1, ap length parts.1, ap length w.2))
         | inr k ↦
             let same = lines_same w.0 k.0 w.1 k.1 (sym w.2 ∙ parts.1 ∙ k.2) in
-            one_line n p.before k.0 small p.goods.within f g (subst (λ l. LineFault n p.before l f) same.0 w.3) (subst (λ b. LineFault n b k.0 g) before k.3)
+            one_line n p.before k.0 small p.goods.within f g (subst (λ l. PgLineFault n p.before l f) same.0 w.3) (subst (λ b. PgLineFault n b k.0 g) before k.3)
       ]
     ] in
     (fault, at)
 
 -- two readings of one header
 two_headers : (all : List (List ℕ)) (first first' : List ℕ) (rest rest' : List (List ℕ)) (n n' : ℕ) → all ≡ first ∷ rest → all ≡ first' ∷ rest'
-    → IsHeader first n → IsHeader first' n' → (capped n ≡ capped n') × (rest ≡ rest')
+    → IsPgHeader first n → IsPgHeader first' n' → (capped n ≡ capped n') × (rest ≡ rest')
 two_headers all first first' rest rest' n n' cut cut' h h' =
     let same = lines_same first first' rest rest' (sym cut ∙ cut') in
-    (header_same first' n n' (subst (λ x. IsHeader x n) same.0 h) h', same.1)
+    (header_same first' n n' (subst (λ x. IsPgHeader x n) same.0 h) h', same.1)
 
-one_first : (all : List (List ℕ)) (f g : PgFault) → HeaderFault all f → HeaderFault all g → f ≡ g
+one_first : (all : List (List ℕ)) (f g : PgFault) → PgHeaderFault all f → PgHeaderFault all g → f ≡ g
 one_first all BadHeader BadHeader p q = refl
 one_first all BadHeader TooManyVertices p (first, rest, n, cut, h, over) = absurd (p first rest n cut h)
 one_first all TooManyVertices BadHeader (first, rest, n, cut, h, over) q = absurd (q first rest n cut h)
@@ -282,8 +282,8 @@ one_first all f BadSuccessor p q = absurd q
 one_first all f PriorityTooGreat p q = absurd q
 
 -- a right header has no fault
-right_header : (all : List (List ℕ)) (fault : PgFault) (first : List ℕ) (rest : List (List ℕ)) (n : ℕ) → HeaderFault all fault → all ≡ first ∷ rest
-    → IsHeader first n → n < MOST_VERTICES → ⊥
+right_header : (all : List (List ℕ)) (fault : PgFault) (first : List ℕ) (rest : List (List ℕ)) (n : ℕ) → PgHeaderFault all fault → all ≡ first ∷ rest
+    → IsPgHeader first n → n < MOST_VERTICES → ⊥
 right_header all BadHeader first rest n p cut h small = p first rest n cut h
 right_header all TooManyVertices first rest n (first', rest', n', cut', h', over) cut h small = let e =
     (two_headers all first first' rest rest' n n' cut cut' h h').0 in omega (arith, e, small, over)
@@ -292,7 +292,7 @@ right_header all BadIdentifier first rest n p cut h small = p
 right_header all BadSuccessor first rest n p cut h small = p
 right_header all PriorityTooGreat first rest n p cut h small = p
 
-pub one_fault : (text : List ℕ) (f g : PgFault) (i j : ℕ) → HasFault text f i → HasFault text g j → (f ≡ g) × (i ≡ j)
+pub one_fault : (text : List ℕ) (f g : PgFault) (i j : ℕ) → HasPgFault text f i → HasPgFault text g j → (f ≡ g) × (i ≡ j)
 one_fault text f g i j (inl (p, at)) (inl (q, at')) = (one_first (lines text) f g p q, at ∙ sym at')
 one_fault text f g i j (inl (p, at)) (inr (first, rest, n, good, cut, h, small, body, place)) = absurd (right_header (lines text) f first rest n p cut h small)
 one_fault text f g i j (inr (first, rest, n, good, cut, h, small, body, place)) (inl (q, at)) = absurd (right_header (lines text) g first rest n q cut h small)

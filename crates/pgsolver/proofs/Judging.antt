@@ -8,7 +8,7 @@ use Rattle.text.specs.Text.{lines}
 use Rattle.text.specs.Tokens.{capped, sign_at}
 use Rattle.text.specs.Lines.{IfKnown}
 use Rattle.text.specs.Stream as stream
-use Rattle.text.specs.Stream.{below, PassesLine}
+use Rattle.text.specs.Stream.{after_line, PassesLine}
 use Rattle.text.proofs.Streaming.{lines_cons}
 use Rattle.lts.proofs.Unique.{lines_same}
 use Rattle.systems.proofs.Ordered.{Has, Has-from_Contains, Contains-from_Has, all_has}
@@ -17,10 +17,10 @@ use Rattle.game.specs.NumberSet.{number_set}
 use Rattle.pgsolver.specs.declared.error.PgFault.{PgFault}
 use Rattle.pgsolver.specs.declared.error.PgFault.TheVariants.{BadHeader, BadLine, BadIdentifier, BadSuccessor, PriorityTooGreat, TooManyVertices}
 use Rattle.pgsolver.specs.declared.scan.Head.{Head}
-use Rattle.pgsolver.specs.Spelling.{VertexLine, IsHeader, IsLine, IsLineWithin}
+use Rattle.pgsolver.specs.Spelling.{VertexLine, IsPgHeader, IsLine, IsLineWithin}
 use Rattle.pgsolver.specs.Passes.{PassesVertex}
 use Rattle.pgsolver.proofs.Same.{set_none, far_set}
-use Rattle.pgsolver.specs.Fault.{IsBadId, HasBadSuccessor, LineFault, HasFault}
+use Rattle.pgsolver.specs.Fault.{IsBadId, HasBadSuccessor, PgLineFault, HasPgFault}
 use Rattle.pgsolver.specs.Scan.{capped_line, line_said, header_at, line_at}
 use Rattle.pgsolver.specs.Left.{BeginsGame, IsPlace, ArePlaces, Says, IsSound, IsFaultOfLine, has_far}
 use Rattle.pgsolver.proofs.Scanning.{header_gives, header_finds, line_gives, line_finds}
@@ -29,16 +29,16 @@ use Rattle.pgsolver.proofs.Placing.{has_at}
 -- ---- the header
 
 -- the first line is no header
-pub bad_first : (old new : Option (List ℕ)) → IfKnown old new (PassesLine header_at None) → IfSome old (λ text. HasFault text BadHeader 1)
+pub bad_first : (old new : Option (List ℕ)) → IfKnown old new (PassesLine header_at None) → IfSome old (λ text. HasPgFault text BadHeader 1)
 bad_first None new none = tt
 bad_first (Some text) None none = absurd none
 bad_first (Some []) (Some left) none = inl (λ first rest n e header. absurd cc, refl)
 bad_first (Some (b ∷ text)) (Some left) none =
     inl (
       λ first rest n e header.
-          let same : first ≡ stream.line_of (b ∷ text) = (lines_same first (stream.line_of (b ∷ text)) rest (lines (below (b ∷ text)))
+          let same : first ≡ stream.line_of (b ∷ text) = (lines_same first (stream.line_of (b ∷ text)) rest (lines (after_line (b ∷ text)))
           (sym e ∙ lines_cons b text)).0 in
-          let some = header_finds (stream.line_of (b ∷ text)) n (subst (λ l. IsHeader l n) same header) in cc,
+          let some = header_finds (stream.line_of (b ∷ text)) n (subst (λ l. IsPgHeader l n) same header) in cc,
       refl,
     )
 
@@ -47,18 +47,18 @@ unfolding header_at sign_at
 no_header v e = cc
 
 -- the first line is this one
-first_line : (text : List ℕ) (v : ℕ) → header_at (stream.line_of text) ≡ Some v → lines text ≡ stream.line_of text ∷ lines (below text)
+first_line : (text : List ℕ) (v : ℕ) → header_at (stream.line_of text) ≡ Some v → lines text ≡ stream.line_of text ∷ lines (after_line text)
 first_line [] v e = absurd (no_header v e)
 first_line (b ∷ text) v e = lines_cons b text
 
 -- the header announces too many vertices
 pub over_first : (old new : Option (List ℕ)) (v : ℕ) → IfKnown old new (PassesLine header_at (Some v)) → MOST_VERTICES ≤ v
-    → IfSome old (λ text. HasFault text TooManyVertices 1)
+    → IfSome old (λ text. HasPgFault text TooManyVertices 1)
 over_first None new v found over = tt
 over_first (Some text) None v found over = absurd found
 over_first (Some text) (Some left) v (found, after) over =
     let (n, header, is) = header_gives (stream.line_of text) v found in
-    inl ((stream.line_of text, lines (below text), n, first_line text v found, header, omega arith), refl)
+    inl ((stream.line_of text, lines (after_line text), n, first_line text v found, header, omega arith), refl)
 
 -- the header announces what a game may have
 pub right_first : (old new : Option (List ℕ)) (v : ℕ) → IfKnown old new (PassesLine header_at (Some v)) → v < MOST_VERTICES → IfKnown old new (BeginsGame v)
@@ -70,7 +70,7 @@ right_first (Some text) (Some left) v (found, after) within =
     record {
       first = stream.line_of text;
       cut = first_line text v found ∙ ap (λ t. stream.line_of text ∷ lines t) (sym after);
-      header = subst (IsHeader (stream.line_of text)) same header;
+      header = subst (IsPgHeader (stream.line_of text)) same header;
     }
 
 -- ---- a vertex line
@@ -81,7 +81,7 @@ bad_line line none x h = let some = line_finds line x h in cc
 
 -- the line that was next has no such shape
 pub no_shape : (n : ℕ) (before : List VertexLine) (targets : List ℕ) (old new : Option (List ℕ)) → IfKnown old new (PassesVertex targets None)
-    → IfSome old (λ text. LineFault n before (stream.line_of text) BadLine)
+    → IfSome old (λ text. PgLineFault n before (stream.line_of text) BadLine)
 no_shape n before targets None new none = tt
 no_shape n before targets (Some text) None none = absurd none
 no_shape n before targets (Some text) (Some left) none = bad_line (stream.line_of text) none
@@ -147,7 +147,7 @@ module _ (n : ℕ) (small : n < MOST_VERTICES) (before : List VertexLine) (place
       (Has-from_Contains x.successors t there) in
       omega (arith, low, far)
 
-  fault_of : (fault : PgFault) → IsFaultOfLine n places a fault → LineFault n before line fault
+  fault_of : (fault : PgFault) → IsFaultOfLine n places a fault → PgLineFault n before line fault
   fault_of BadIdentifier (inl high) = (x, is, inl (omega (arith, id_is)))
   fault_of BadIdentifier (inr (low, some)) = (x, is, old_id low some)
   fault_of BadSuccessor (low, none, inl empty) = (x, is, new_id low none, inl (none_mapped x.successors (sym successors_are ∙ empty)))
@@ -179,7 +179,7 @@ fault_set n places head numbers set made TooManyVertices h = absurd h
 -- what the line says is wrong
 pub faulty : (n : ℕ) (before : List VertexLine) (places : List (Option ℕ)) (head : Head) (targets set : List ℕ) (fault : PgFault) (old new : Option (List ℕ))
     → n < MOST_VERTICES → ArePlaces n before places → IfKnown old new (PassesVertex targets (Some head)) → set ≡ number_set targets
-    → IsFaultOfLine n places (line_said head set) fault → IfSome old (λ text. LineFault n before (stream.line_of text) fault)
+    → IsFaultOfLine n places (line_said head set) fault → IfSome old (λ text. PgLineFault n before (stream.line_of text) fault)
 faulty n before places head targets set fault None new small are found made wrong = tt
 faulty n before places head targets set fault (Some text) None small are found made wrong = absurd found
 faulty n before places head targets set fault (Some text) (Some left) small are (numbers, found, same, after) made wrong =

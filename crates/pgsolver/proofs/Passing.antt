@@ -11,7 +11,7 @@ use Rattle.std.proofs.lemmas.List.Folds.{list_all-append}
 use Rattle.text.specs.Text.{is_blank, is_digit, is_numeral, value_of}
 use Rattle.text.specs.Lines.{IfKnown}
 use Rattle.text.specs.Tokens.{capped, past_blanks, sign_at, number_at, number_before, cut_at, quoted_at, end_at, ◌>>=◌}
-use Rattle.text.specs.Stream.{line_of, below, next_of, is_inside, Shows, Passes, PassesSign, PassesKept, PassesLine, Ends}
+use Rattle.text.specs.Stream.{line_of, after_line, front_byte, is_inside, Shows, Passes, PassesSign, PassesKept, PassesLine, Ends}
 use Rattle.text.proofs.Spaced.{begins}
 use Rattle.text.proofs.Scanning.{past_gap, run_none, if_some, sign_here}
 use Rattle.text.proofs.Streaming.{known_then, known_only, known_both, Then, One, sign_stops, sign_goes_on, token_stops, token_goes_on}
@@ -46,7 +46,7 @@ behind text left runs =
     let stop = line_stops is_blank left runs.stop in
     let past : past_blanks (line_of text) ≡ line_of left = ap (λ t. past_blanks (line_of t)) runs.cut ∙ ap past_blanks line
     ∙ past_gap runs.run (line_of left) runs.all stop in
-    record { past = past; is = record { same = past ∙ sym (past_gap [] (line_of left) refl stop); under = ap below runs.cut ∙ under } }
+    record { past = past; is = record { same = past ∙ sym (past_gap [] (line_of left) refl stop); under = ap after_line runs.cut ∙ under } }
 
 -- the blanks so far
 pub record SkipsSo (text left : List ℕ) : Type 0 where
@@ -72,18 +72,18 @@ blank_more old mid new b so one blank =
 pub skips : (next : Option ℕ) (old mid new : Option (List ℕ)) → IfKnown old mid SkipsSo → Shows mid new next → IfSome next (λ b. is_blank b ≡ false)
     → IfKnown old new (SkipsTo next)
 skips next old mid new so shows stop =
-    known_then {P = SkipsSo} {Q = λ text left. (left ≡ text) × (next_of text ≡ next)} {R = SkipsTo next} old mid new so shows
+    known_then {P = SkipsSo} {Q = λ text left. (left ≡ text) × (front_byte text ≡ next)} {R = SkipsTo next} old mid new so shows
     (λ text between left a s. (
       record {
         run = a.run;
         cut = a.cut ∙ ap (λ l. a.run ++ l) (sym s.0);
         all = a.all;
-        stop = subst (λ o. IfSome o (λ b. is_blank b ≡ false)) (sym (ap next_of s.0 ∙ s.1)) stop;
+        stop = subst (λ o. IfSome o (λ b. is_blank b ≡ false)) (sym (ap front_byte s.0 ∙ s.1)) stop;
       },
-      ap next_of s.0 ∙ s.1,
+      ap front_byte s.0 ∙ s.1,
     ))
 
-next_cons : (text : List ℕ) (b : ℕ) → next_of text ≡ Some b → text ≡ b ∷ drop 1 text
+next_cons : (text : List ℕ) (b : ℕ) → front_byte text ≡ Some b → text ≡ b ∷ drop 1 text
 next_cons [] b e = absurd cc
 next_cons (c ∷ text) b e = let same : c ≡ b = cc in ap (λ x. x ∷ text) same
 
@@ -154,12 +154,12 @@ blank_gap : (b : ℕ) (text left : List ℕ) → is_blank b ≡ true → text �
 unfolding gap_at
 blank_gap b text left blank cut =
     let (line, under) = line_cons b left (blank_inside b blank) in
-    (ap (λ t. gap_at (line_of t)) cut ∙ ap gap_at line ∙ rw blank refl, ap below cut ∙ under)
+    (ap (λ t. gap_at (line_of t)) cut ∙ ap gap_at line ∙ rw blank refl, ap after_line cut ∙ under)
 
 pub gap_taken : (old new : Bytes) (b : ℕ) → is_blank b ≡ true → IfKnown old new (One b) → IfKnown old new (PassesGap true)
 gap_taken old new b blank one = known_only {P = One b} {Q = PassesGap true} old new one (λ text left cut. blank_gap b text left blank cut)
 
-no_gap : (text : List ℕ) → IfSome (next_of text) (λ b. is_blank b ≡ false) → gap_at (line_of text) ≡ None
+no_gap : (text : List ℕ) → IfSome (front_byte text) (λ b. is_blank b ≡ false) → gap_at (line_of text) ≡ None
 unfolding gap_at
 no_gap text stop = none (line_of text) (line_stops is_blank text stop)
   where
@@ -168,7 +168,7 @@ no_gap text stop = none (line_of text) (line_stops is_blank text stop)
     none (b ∷ line) h = rw h refl
 
 pub gap_missing : (old new : Bytes) (next : Option ℕ) → Shows old new next → IfSome next (λ b. is_blank b ≡ false) → IfKnown old new (PassesGap false)
-gap_missing old new next shows stop = known_only {P = λ text left. (left ≡ text) × (next_of text ≡ next)} {Q = PassesGap false} old new shows
+gap_missing old new next shows stop = known_only {P = λ text left. (left ≡ text) × (front_byte text ≡ next)} {Q = PassesGap false} old new shows
     (λ text left s. (no_gap text (subst (λ o. IfSome o (λ b. is_blank b ≡ false)) (sym s.1) stop), s.0))
 
 -- the comma is there, or isn't
@@ -181,7 +181,7 @@ comma_taken next (Some text) (Some left) new limit (runs, at) is fits drops =
     let cut : left ≡ 44 ∷ drop 1 left = next_cons left 44 (at ∙ is) in
     let (line, under) = line_cons 44 (drop 1 left) refl in
     let blanks = behind text left runs in
-    rw new-is (sign_here (44 ∷ []) (line_of text) (line_of (drop 1 left)) (blanks.past ∙ ap line_of cut ∙ line), blanks.is.under ∙ ap below cut ∙ under)
+    rw new-is (sign_here (44 ∷ []) (line_of text) (line_of (drop 1 left)) (blanks.past ∙ ap line_of cut ∙ line), blanks.is.under ∙ ap after_line cut ∙ under)
 
 pub comma_missing : (next : Option ℕ) (old mid : Bytes) → IfKnown old mid (SkipsTo next) → next ≢ Some 44 → IfKnown old mid (PassesComma false)
 comma_missing next None mid runs other = tt
@@ -190,7 +190,7 @@ comma_missing next (Some text) (Some left) runs other =
     (sign_missing 44 next text left runs other, (behind text left runs.0).is)
 
 -- a digit follows, or none does
-no_number : (text left : List ℕ) → SkipsBlanks text left → IfSome (next_of left) (λ b. is_digit b ≡ false) → number_at (line_of text) ≡ None
+no_number : (text left : List ℕ) → SkipsBlanks text left → IfSome (front_byte left) (λ b. is_digit b ≡ false) → number_at (line_of text) ≡ None
 unfolding number_at
 no_number text left runs stop =
     let past = (behind text left runs).past in
@@ -350,7 +350,7 @@ pub record AddsSo (before now text left : List ℕ) : Type 0 where
   all : List ℕ
   added : HasAdded (line_of text) before all (line_of left)
   same : number_set now ≡ number_set all
-  under : below text ≡ below left
+  under : after_line text ≡ after_line left
 
 pub adds_none : (old : Bytes) (list : List ℕ) → IfKnown old old (AddsSo list list)
 adds_none None list = tt
@@ -415,7 +415,7 @@ no_target list old new gap = known_only {P = PassesGap false} {Q = PassesTargets
       numbers = none_found (line_of text) list (first_none (line_of text) g.0);
       same = refl;
       after = ap (λ t. tail_at (line_of t)) (sym g.1);
-      under = ap below (sym g.1);
+      under = ap after_line (sym g.1);
     })
 
 -- no digit behind the blank, and so no successor

@@ -10,7 +10,7 @@ use Rattle.std.proofs.lemmas.Option.{slice_get_within, slice_get-get_or}
 use Rattle.text.specs.Text.{lines}
 use Rattle.text.specs.Lines.{IfKnown}
 use Rattle.text.specs.Stream as stream
-use Rattle.text.specs.Stream.{below, HasLine}
+use Rattle.text.specs.Stream.{after_line, HasLine}
 use Rattle.lts.specs.Left.{HasNoLine}
 use Rattle.lts.proofs.Gathering.{all_append}
 use Rattle.systems.proofs.Ordered.{Has, Has-from_Contains, Contains-from_Has, all_has}
@@ -23,10 +23,10 @@ use Rattle.pgsolver.specs.declared.error.PgError.{PgError}
 use Rattle.pgsolver.specs.declared.error.PgError.TheVariants.{Fault, Read, Memory}
 use Rattle.pgsolver.specs.declared.scan.Head.{Head}
 use Rattle.pgsolver.specs.Spelling.{VertexLine, IsLine, IsLineWithin, AreGoodLines, vertex_said}
-use Rattle.pgsolver.specs.Fault.{LineFault}
+use Rattle.pgsolver.specs.Fault.{PgLineFault}
 use Rattle.pgsolver.specs.Scan.{line_said}
 use Rattle.pgsolver.specs.Passes.{PassesVertex}
-use Rattle.pgsolver.specs.Left.{HasRestFault, BeginsWithLines, TakesRow, IsPlace, ArePlaces, LinesSoFar, AreAll, AreFilled, Says, TellsFault, Refuses}
+use Rattle.pgsolver.specs.Left.{HasPgRestFault, BeginsWithLines, TakesRow, IsPlace, ArePlaces, LinesSoFar, AreAll, AreFilled, Says, TellsFault, RefusesPg}
 use Rattle.pgsolver.proofs.Scanning.{line_gives}
 use Rattle.pgsolver.proofs.Judging.{no_shape}
 use Rattle.pgsolver.proofs.Placing.{has_at, has_end, at_left, at_end, each_there}
@@ -54,7 +54,7 @@ cut_more (Some text) (Some left) None new spelled x cut has taken = absurd has
 cut_more (Some text) (Some left) (Some same) None spelled x cut has taken = absurd taken
 cut_more (Some text) (Some left) (Some same) (Some rest) spelled x (done, cut, each) (kept, more) (is, after) = (
   done ++ stream.line_of left ∷ [],
-  cut ∙ ap (λ l. done ++ l) (more ∙ ap (λ t. stream.line_of left ∷ lines t) (sym (after ∙ ap below kept)))
+  cut ∙ ap (λ l. done ++ l) (more ∙ ap (λ t. stream.line_of left ∷ lines t) (sym (after ∙ ap after_line kept)))
       ∙ sym (append_assoc done (stream.line_of left ∷ []) (lines rest)),
   zip_more done spelled (stream.line_of left) x each (subst (λ t. IsLine (stream.line_of t) x) kept is),
 )
@@ -162,7 +162,7 @@ front_of n good text left vertices places so =
 
 -- the lines end too soon
 pub too_few : (n good p : ℕ) → p ≡ good → (old mid new : Option (List ℕ)) (vertices : List Vertex) (places : List (Option ℕ))
-    → LinesSoFar n good old mid vertices places → HasLine mid new false → good ≤ n → IfSome old (λ text. HasRestFault n text BadIdentifier (p + 2))
+    → LinesSoFar n good old mid vertices places → HasLine mid new false → good ≤ n → IfSome old (λ text. HasPgRestFault n text BadIdentifier (p + 2))
 too_few n good p at None mid new vertices places so none few = tt
 too_few n good p at (Some text) None new vertices places so none few = absurd so.cut
 too_few n good p at (Some text) (Some left) None vertices places so none few = absurd none
@@ -182,7 +182,7 @@ too_few n good p at (Some text) (Some left) (Some rest) vertices places so none 
     )
 
 bad_text : (n good p : ℕ) → p ≡ good + 2 → (text left line : List ℕ) (rest : List (List ℕ)) (spelled : List VertexLine) (fault : PgFault)
-    → Front n good text left spelled → lines left ≡ line ∷ rest → LineFault n spelled line fault → HasRestFault n text fault p
+    → Front n good text left spelled → lines left ≡ line ∷ rest → PgLineFault n spelled line fault → HasPgRestFault n text fault p
 bad_text n good p at text left line rest spelled BadIdentifier front more wrong = (
   good,
   inl (record {
@@ -215,7 +215,7 @@ bad_text n good p at text left line rest spelled _ front more wrong = (
 -- the line is faulty
 pub bad_row : (n good p : ℕ) → p ≡ good + 2 → (old a mid : Option (List ℕ)) (vertices : List Vertex) (places : List (Option ℕ))
     (e : PgError) → LinesSoFar n good old a vertices places → HasLine a mid true
-    → ((before : List VertexLine) → ArePlaces n before places → TellsFault n before mid p e) → Refuses old (HasRestFault n) e
+    → ((before : List VertexLine) → ArePlaces n before places → TellsFault n before mid p e) → RefusesPg old (HasPgRestFault n) e
 bad_row n good p at None a mid vertices places e so more tells = tt
 bad_row n good p at (Some text) None mid vertices places e so more tells = absurd so.cut
 bad_row n good p at (Some text) (Some left) None vertices places e so more tells = absurd more
@@ -223,15 +223,15 @@ bad_row n good p at (Some text) (Some left) (Some same) vertices places Read so 
 bad_row n good p at (Some text) (Some left) (Some same) vertices places Memory so more tells = tt
 bad_row n good p at (Some text) (Some left) (Some same) vertices places (Fault fault l) so (kept, more) tells =
     let (wrong, here) = tells so.spelled so.placed in
-    bad_text n good l (here ∙ at) text left (stream.line_of left) (lines (below left)) so.spelled fault (front_of n good text left vertices places so) more
-    (subst (λ t. LineFault n so.spelled (stream.line_of t) fault) kept wrong)
+    bad_text n good l (here ∙ at) text left (stream.line_of left) (lines (after_line left)) so.spelled fault (front_of n good text left vertices places so) more
+    (subst (λ t. PgLineFault n so.spelled (stream.line_of t) fault) kept wrong)
 
 within_id : (n : ℕ) (spelled : List VertexLine) → AllByRecursion (IsLineWithin n) spelled → (x : VertexLine) → Has spelled x → x.id ≤ n
 within_id n spelled within x there = (all_has (IsLineWithin n) spelled x within there).id
 
 -- a line after as many as were announced
 past_shape : (n : ℕ) (old now : Option (List ℕ)) (vertices : List Vertex) (places : List (Option ℕ)) (line : List ℕ) (x : VertexLine)
-    → (so : LinesSoFar n (n + 1) old now vertices places) → IsLine line x → LineFault n so.spelled line BadIdentifier
+    → (so : LinesSoFar n (n + 1) old now vertices places) → IsLine line x → PgLineFault n so.spelled line BadIdentifier
 past_shape n old now vertices places line x so is =
     elim (cases_lt n x.id) [
       | inl high ↦ (x, is, inl high)
@@ -242,25 +242,25 @@ past_shape n old now vertices places line x so is =
 
 past_end : (n p : ℕ) → p ≡ n + 3 → (old a mid : Option (List ℕ)) (vertices : List Vertex) (places : List (Option ℕ)) (fault : PgFault)
     → LinesSoFar n (n + 1) old a vertices places → HasLine a mid true
-    → ((so : LinesSoFar n (n + 1) old a vertices places) → IfSome mid (λ text. LineFault n so.spelled (stream.line_of text) fault))
-    → IfSome old (λ text. HasRestFault n text fault p)
+    → ((so : LinesSoFar n (n + 1) old a vertices places) → IfSome mid (λ text. PgLineFault n so.spelled (stream.line_of text) fault))
+    → IfSome old (λ text. HasPgRestFault n text fault p)
 past_end n p at None a mid vertices places fault so more wrong = tt
 past_end n p at (Some text) None mid vertices places fault so more wrong = absurd so.cut
 past_end n p at (Some text) (Some left) None vertices places fault so more wrong = absurd more
 past_end n p at (Some text) (Some left) (Some same) vertices places fault so (kept, more) wrong =
-    bad_text n (n + 1) p (omega arith) text left (stream.line_of left) (lines (below left)) so.spelled fault (front_of n (n + 1) text left vertices places so) more
-    (subst (λ t. LineFault n so.spelled (stream.line_of t) fault) kept (wrong so))
+    bad_text n (n + 1) p (omega arith) text left (stream.line_of left) (lines (after_line left)) so.spelled fault (front_of n (n + 1) text left vertices places so) more
+    (subst (λ t. PgLineFault n so.spelled (stream.line_of t) fault) kept (wrong so))
 
 pub past_bad : (n p : ℕ) → p ≡ n + 3 → (old a mid new : Option (List ℕ)) (vertices : List Vertex) (places : List (Option ℕ)) (targets : List ℕ)
     → LinesSoFar n (n + 1) old a vertices places → HasLine a mid true → IfKnown mid new (PassesVertex targets None)
-    → IfSome old (λ text. HasRestFault n text BadLine p)
+    → IfSome old (λ text. HasPgRestFault n text BadLine p)
 past_bad n p at old a mid new vertices places targets so more none =
     past_end n p at old a mid vertices places BadLine so more (λ so. no_shape n so.spelled targets mid new none)
 
 -- a vertex line is one too many
 one_more : (n : ℕ) (old a : Option (List ℕ)) (vertices : List Vertex) (places : List (Option ℕ)) (head : Head) (targets : List ℕ) (mid new : Option (List ℕ))
     → IfKnown mid new (PassesVertex targets (Some head)) → (so : LinesSoFar n (n + 1) old a vertices places)
-    → IfSome mid (λ text. LineFault n so.spelled (stream.line_of text) BadIdentifier)
+    → IfSome mid (λ text. PgLineFault n so.spelled (stream.line_of text) BadIdentifier)
 one_more n old a vertices places head targets None new found so = tt
 one_more n old a vertices places head targets (Some text) None found so = absurd found
 one_more n old a vertices places head targets (Some text) (Some left) (numbers, found, same, after) so =
@@ -269,7 +269,7 @@ one_more n old a vertices places head targets (Some text) (Some left) (numbers, 
 
 pub past_all : (n p : ℕ) → p ≡ n + 3 → (old a mid new : Option (List ℕ)) (vertices : List Vertex) (places : List (Option ℕ)) (head : Head)
     (targets : List ℕ) → LinesSoFar n (n + 1) old a vertices places → HasLine a mid true → IfKnown mid new (PassesVertex targets (Some head))
-    → IfSome old (λ text. HasRestFault n text BadIdentifier p)
+    → IfSome old (λ text. HasPgRestFault n text BadIdentifier p)
 past_all n p at old a mid new vertices places head targets so more found =
     past_end n p at old a mid vertices places BadIdentifier so more (one_more n old a vertices places head targets mid new found)
 

@@ -17,7 +17,7 @@ use Rattle.game.specs.declared.player.Player.{Player}
 use Rattle.game.specs.declared.player.Player.TheVariants.{Even, Odd}
 use Rattle.pgsolver.specs.declared.scan.Head.{Head}
 use Rattle.pgsolver.specs.Canon.{owner_digit}
-use Rattle.pgsolver.specs.Spelling.{VertexLine, IsHeader, IsOneBlank, IsLine, IsName, is_vertex_name, name_tokens, successor_tokens, with_commas}
+use Rattle.pgsolver.specs.Spelling.{VertexLine, IsPgHeader, IsOneBlank, IsLine, IsName, is_vertex_name, name_tokens, successor_tokens, with_commas}
 use Rattle.pgsolver.specs.Scan.{capped_line, line_said, header_at, gap_at, number_gap, owner_at, head_at, first_at, more_at, more_behind, targets_at}
 use Rattle.pgsolver.specs.Scan.{targets_behind, name_at, name_behind, tail_at, line_at}
 
@@ -32,7 +32,7 @@ some_same {A} {B} a c b d e = let same : both a b ≡ both c d = cc in (ap (λ (
 
 -- ---- the header
 
-pub header_gives : (line : List ℕ) (v : ℕ) → header_at line ≡ Some v → (n : ℕ) × IsHeader line n × (v ≡ capped n)
+pub header_gives : (line : List ℕ) (v : ℕ) → header_at line ≡ Some v → (n : ℕ) × IsPgHeader line n × (v ≡ capped n)
 unfolding header_at
 header_gives line v e =
     let (r1, s1, e1) = bind_some (sign_at (codes "parity") line) (λ rest. number_before (codes ";") rest >>= λ n. end_at n.0 n.1) v e in
@@ -41,7 +41,7 @@ header_gives line v e =
     let (x, hx, vx, gx) = number_before_gives (codes ";") r1 n.0 n.1 s2 in
     (value_of x, (x, (hx, refl), sign_gives (codes "parity") line r1 (x ∷ codes ";" ∷ []) s1 (gx [] blank)), sym same ∙ vx)
 
-pub header_finds : (line : List ℕ) (n : ℕ) → IsHeader line n → header_at line ≡ Some (capped n)
+pub header_finds : (line : List ℕ) (n : ℕ) → IsPgHeader line n → header_at line ≡ Some (capped n)
 unfolding header_at
 header_finds line n (x, hx, spaced) =
     let (r1, s1, m1) = sign_finds 112 (97 ∷ 114 ∷ 105 ∷ 116 ∷ 121 ∷ []) line (x ∷ codes ";" ∷ []) refl spaced in

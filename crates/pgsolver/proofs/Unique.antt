@@ -11,7 +11,7 @@ use Rattle.systems.proofs.Ordered.{Has, Contains-from_Has, all_has}
 use Rattle.game.specs.declared.player.Player.TheVariants.{Even}
 use Rattle.game.specs.declared.limits.TheConstants.{MOST_VERTICES}
 use Rattle.game.specs.Game.{Vertex, Game}
-use Rattle.pgsolver.specs.Spelling.{VertexLine, IsHeader, IsLine, IsLineWithin, IsGameText, vertex_said}
+use Rattle.pgsolver.specs.Spelling.{VertexLine, IsPgHeader, IsLine, IsLineWithin, IsGameText, vertex_said}
 use Rattle.pgsolver.specs.Scan.{capped_line}
 use Rattle.pgsolver.proofs.Scanning.{header_finds, line_finds}
 use Rattle.pgsolver.proofs.Placing.{each_there}
@@ -21,7 +21,7 @@ some_line : {A : Type 0} (x y : A) → Some x ≡ Some y → x ≡ y
 some_line x y e = cc
 
 -- two readings of one header are read alike
-pub header_same : (line : List ℕ) (m n : ℕ) → IsHeader line m → IsHeader line n → capped m ≡ capped n
+pub header_same : (line : List ℕ) (m n : ℕ) → IsPgHeader line m → IsPgHeader line n → capped m ≡ capped n
 header_same line m n h k = some_line (capped m) (capped n) (sym (header_finds line m h) ∙ header_finds line n k)
 
 -- and two readings of one line
@@ -65,10 +65,10 @@ lines_are n (line ∷ rest) (x ∷ xs) (y ∷ ys) small within h k =
 
 -- two readings of one text have one header and the same lines
 pub text_same : (text : List ℕ) (g : Game) (a : IsGameText text g) (first : List ℕ) (rest : List (List ℕ)) (n : ℕ) → lines text ≡ first ∷ rest
-    → IsHeader first n → n < MOST_VERTICES → (n ≡ a.n) × (rest ≡ a.rest)
+    → IsPgHeader first n → n < MOST_VERTICES → (n ≡ a.n) × (rest ≡ a.rest)
 text_same text g a first rest n cut header small =
     let same = lines_same first a.first rest a.rest (sym cut ∙ a.cut) in
-    let h = header_same a.first n a.n (subst (λ l. IsHeader l n) same.0 header) a.header in
+    let h = header_same a.first n a.n (subst (λ l. IsPgHeader l n) same.0 header) a.header in
     (omega (arith, h, a.limit), same.1)
 
 other_vertex : Vertex

@@ -12,8 +12,8 @@ use Rattle.game.specs.Game.{Vertex, Game}
 use Rattle.pgsolver.specs.declared.error.PgError.{PgError}
 use Rattle.pgsolver.specs.declared.error.PgError.TheVariants as errors
 use Rattle.pgsolver.specs.Spelling.{VertexLine, IsLineWithin, IsGameText, vertex_said}
-use Rattle.pgsolver.specs.Fault.{HasFault, HasFaultAt}
-use Rattle.pgsolver.specs.Left.{BeginsGame, IsPlace, AreAll, ArePutByIds, HasRestFault, Refuses, named}
+use Rattle.pgsolver.specs.Fault.{HasPgFault, HasPgFaultAt}
+use Rattle.pgsolver.specs.Left.{BeginsGame, IsPlace, AreAll, ArePutByIds, HasPgRestFault, RefusesPg, pg_fault_of}
 use Rattle.pgsolver.proofs.Placing.{has_at, one_line}
 use Rattle.pgsolver.proofs.Unique as unique
 use Rattle.pgsolver.proofs.Faults.{no_fault, one_fault}
@@ -57,8 +57,8 @@ read_whole (Some text) (Some left) (Some rest) n vertices places g small begins 
 }
 
 -- a fault below the header decides
-pub read_fault : (old mid : Option (List ℕ)) (n : ℕ) (e : PgError) → n < MOST_VERTICES → IfKnown old mid (BeginsGame n) → Refuses mid (HasRestFault n) e
-    → Refuses old HasFault e
+pub read_fault : (old mid : Option (List ℕ)) (n : ℕ) (e : PgError) → n < MOST_VERTICES → IfKnown old mid (BeginsGame n) → RefusesPg mid (HasPgRestFault n) e
+    → RefusesPg old HasPgFault e
 read_fault None mid n e small begins wrong = tt
 read_fault (Some text) None n e small begins wrong = absurd begins
 read_fault (Some text) (Some left) n errors.Read small begins wrong = tt
@@ -66,7 +66,7 @@ read_fault (Some text) (Some left) n errors.Memory small begins wrong = tt
 read_fault (Some text) (Some left) n (errors.Fault fault line) small begins (good, body, place) = inr
     (begins.first, lines left, n, good, begins.cut, begins.header, small, body, place)
 
-pub laws : AreLaws IsGameText IsGameText IsGameText HasFaultAt
+pub laws : AreLaws IsGameText IsGameText IsGameText HasPgFaultAt
 laws = record {
   one_value = λ text g h a b. unique.one_game text h g b a;
   no_fault = λ text g f a h. no_fault text g f.0 f.1 a h;
@@ -75,6 +75,6 @@ laws = record {
 }
 
 -- all that the reader promises
-pub promised : (old : Option (List ℕ)) (r : Result Game PgError) → IfOk r (λ g. IfSome old (λ text. IsGameText text g)) → IfErr r (Refuses old HasFault)
-    → Reads IsGameText IsGameText IsGameText HasFaultAt (λ (g : Game). g) named old r
-promised old r spelled fault = keeps IsGameText IsGameText IsGameText HasFaultAt (λ (g : Game). g) named laws old r spelled fault
+pub promised : (old : Option (List ℕ)) (r : Result Game PgError) → IfOk r (λ g. IfSome old (λ text. IsGameText text g)) → IfErr r (RefusesPg old HasPgFault)
+    → Reads IsGameText IsGameText IsGameText HasPgFaultAt (λ (g : Game). g) pg_fault_of old r
+promised old r spelled fault = keeps IsGameText IsGameText IsGameText HasPgFaultAt (λ (g : Game). g) pg_fault_of laws old r spelled fault

@@ -6,44 +6,44 @@ use Rattle.text.specs.Text.{lines}
 use Rattle.text.specs.Lines.{IfKnown}
 use Rattle.text.specs.declared.error.ReadFault.{ReadFault}
 use Rattle.text.specs.declared.error.ReadFault.TheVariants as reads
-use Rattle.normal.specs.declared.limits.TheConstants.{GREATEST_PRIORITY}
+use Rattle.forms.specs.declared.limits.TheConstants.{GREATEST_PRIORITY}
 use Rattle.game.specs.Game.{Vertex}
 use Rattle.pgsolver.specs.declared.error.PgFault.{PgFault}
 use Rattle.pgsolver.specs.declared.error.PgFault.TheVariants.{BadIdentifier, BadSuccessor, PriorityTooGreat}
 use Rattle.pgsolver.specs.declared.error.PgError.{PgError}
 use Rattle.pgsolver.specs.declared.error.PgError.TheVariants.{Fault, Read, Memory}
 use Rattle.text.specs.Stream as stream
-use Rattle.text.specs.Stream.{below}
+use Rattle.text.specs.Stream.{after_line}
 use Rattle.pgsolver.specs.Scan.{line_said}
-use Rattle.pgsolver.specs.Spelling.{VertexLine, IsHeader, IsLine, IsLineWithin, AreGoodLines, vertex_said}
+use Rattle.pgsolver.specs.Spelling.{VertexLine, IsPgHeader, IsLine, IsLineWithin, AreGoodLines, vertex_said}
 use Rattle.pgsolver.specs.declared.scan.Head.{Head}
 use Rattle.game.specs.NumberSet.{number_set}
-use Rattle.pgsolver.specs.Fault.{BodyFault, LineFault}
+use Rattle.pgsolver.specs.Fault.{PgBodyFault, PgLineFault}
 
 -- what is told of a line that could not be read
-abbrev pub unread : ReadFault → PgError
-unread reads.Read = Read
-unread reads.Memory = Memory
+abbrev pub pg_unread : ReadFault → PgError
+pg_unread reads.Read = Read
+pg_unread reads.Memory = Memory
 
 -- the fault that an error tells, and its line: none for a failed read, or for want of memory
-abbrev pub named : PgError → Option (PgFault × ℕ)
-named (Fault fault line) = Some (fault, line)
-named Read = None
-named Memory = None
+abbrev pub pg_fault_of : PgError → Option (PgFault × ℕ)
+pg_fault_of (Fault fault line) = Some (fault, line)
+pg_fault_of Read = None
+pg_fault_of Memory = None
 
 -- P holds of what was left, where that is known, and of the fault and its line, if it was one
-abbrev pub Refuses : Option (List ℕ) → (List ℕ → PgFault → ℕ → Type 0) → PgError → Type 0
-Refuses old P e = IfSome old (λ text. IfSome (named e) (λ told. P text told.0 told.1))
+abbrev pub RefusesPg : Option (List ℕ) → (List ℕ → PgFault → ℕ → Type 0) → PgError → Type 0
+RefusesPg old P e = IfSome old (λ text. IfSome (pg_fault_of e) (λ told. P text told.0 told.1))
 
 -- the first line is a header with this greatest identifier, and the others are left
 pub record BeginsGame (n : ℕ) (text left : List ℕ) : Type 0 where
   pub first : List ℕ
   pub cut : lines text ≡ first ∷ lines left
-  pub header : IsHeader first n
+  pub header : IsPgHeader first n
 
 -- the fault of the lines below a header, and its line in the whole text
-abbrev pub HasRestFault : ℕ → List ℕ → PgFault → ℕ → Type 0
-HasRestFault n text fault place = (good : ℕ) × BodyFault n (lines text) fault good × (place ≡ good + 2)
+abbrev pub HasPgRestFault : ℕ → List ℕ → PgFault → ℕ → Type 0
+HasPgRestFault n text fault place = (good : ℕ) × PgBodyFault n (lines text) fault good × (place ≡ good + 2)
 
 -- the line with this identifier, if there is one
 abbrev pub IsPlace : List VertexLine → ℕ → Option ℕ → Type 0
@@ -91,11 +91,11 @@ IsFaultOfLine n places x _ = ⊥
 
 -- the fault of the line that was next, which stands after these, and its place
 abbrev pub TellsFault : ℕ → List VertexLine → Option (List ℕ) → ℕ → PgError → Type 0
-TellsFault n before old place e = IfSome old (λ text. IfSome (named e) (λ told. LineFault n before (stream.line_of text) told.0 × (told.1 ≡ place)))
+TellsFault n before old place e = IfSome old (λ text. IfSome (pg_fault_of e) (λ told. PgLineFault n before (stream.line_of text) told.0 × (told.1 ≡ place)))
 
 -- the line that was next says this, and is taken
 abbrev pub TakesRow : VertexLine → List ℕ → List ℕ → Type 0
-TakesRow x text left = IsLine (stream.line_of text) x × (left ≡ below text)
+TakesRow x text left = IsLine (stream.line_of text) x × (left ≡ after_line text)
 
 -- The line that was next says this within a game with the greatest identifier n, with an identifier that has no line yet.
 pub record Says (n : ℕ) (places : List (Option ℕ)) (old new : Option (List ℕ)) (head : Head) (targets : List ℕ) : Type 0 where

@@ -4,7 +4,7 @@ use Rattle.std.specs.List.{list_all}
 use Rattle.text.specs.Text.{is_blank}
 use Rattle.text.specs.Tokens.{past_blanks, sign_at, number_at, ◌>>=◌}
 use Rattle.text.specs.Stream as stream
-use Rattle.text.specs.Stream.{below, next_of}
+use Rattle.text.specs.Stream.{after_line, front_byte}
 use Rattle.game.specs.NumberSet.{number_set}
 use Rattle.pgsolver.specs.declared.scan.Head.{Head}
 use Rattle.pgsolver.specs.Scan.{line_said, gap_at, more_at, targets_at, name_at, tail_at, line_at, FindsMore}
@@ -18,25 +18,25 @@ pub record SkipsBlanks (text left : List ℕ) : Type 0 where
   pub run : List ℕ
   pub cut : text ≡ run ++ left
   pub all : IsTrue (list_all is_blank run)
-  pub stop : IfSome (next_of left) (λ b. IsFalse (is_blank b))
+  pub stop : IfSome (front_byte left) (λ b. IsFalse (is_blank b))
 
 -- the same, and this byte is next then
 abbrev pub SkipsTo : Option ℕ → List ℕ → List ℕ → Type 0
-SkipsTo next text left = SkipsBlanks text left × (next_of left ≡ next)
+SkipsTo next text left = SkipsBlanks text left × (front_byte left ≡ next)
 
 -- the blanks in front were taken
 pub record IsPast (text left : List ℕ) : Type 0 where
   pub same : past_blanks (first text) ≡ past_blanks (first left)
-  pub under : below text ≡ below left
+  pub under : after_line text ≡ after_line left
 
 -- the blank that was next is taken; or none was, and nothing is
 abbrev pub PassesGap : Bool → List ℕ → List ℕ → Type 0
-PassesGap found text left = MatchBool found ((gap_at (first text) ≡ Some (first left)) × (below text ≡ below left)) ((gap_at (first text) ≡ None) × (left ≡ text))
+PassesGap found text left = MatchBool found ((gap_at (first text) ≡ Some (first left)) × (after_line text ≡ after_line left)) ((gap_at (first text) ≡ None) × (left ≡ text))
 
 -- the comma past the blanks is taken; or there is none, and the blanks are
 abbrev pub PassesComma : Bool → List ℕ → List ℕ → Type 0
 PassesComma found text left =
-    MatchBool found ((sign_at (codes ",") (first text) ≡ Some (first left)) × (below text ≡ below left))
+    MatchBool found ((sign_at (codes ",") (first text) ≡ Some (first left)) × (after_line text ≡ after_line left))
     ((sign_at (codes ",") (first text) ≡ None) × IsPast text left)
 
 -- the blanks are taken, and a digit follows, as no end of a line begins; or there is no number
@@ -50,7 +50,7 @@ pub record HasRead (old new : List ℕ) (found : Option (List ℕ × List ℕ)) 
   pub numbers : FindsMore old all (Some rest) found
   pub same : number_set new ≡ number_set all
   pub after : tail_at rest ≡ tail_at (first left)
-  pub under : below text ≡ below left
+  pub under : after_line text ≡ after_line left
 
 -- the numbers behind commas are read; or none stands behind one of them
 abbrev pub PassesMore : List ℕ → List ℕ → Bool → List ℕ → List ℕ → Type 0
@@ -71,14 +71,14 @@ PassesTargets old new found text left = MatchBool found (HasRead old new (target
 abbrev pub PassesName : Bool → List ℕ → List ℕ → Type 0
 PassesName found text left =
     MatchBool found ((rest : List ℕ) × (name_at (first text) ≡ Some rest) × (sign_at (codes ";") rest ≡ sign_at (codes ";") (first left))
-    × (below text ≡ below left)) (tail_at (first text) ≡ None)
+    × (after_line text ≡ after_line left)) (tail_at (first text) ≡ None)
 
 -- the line ends so, and is taken with its end; or it doesn't
 abbrev pub PassesTail : Bool → List ℕ → List ℕ → Type 0
-PassesTail found text left = MatchBool found ((tail_at (first text) ≡ Some tt) × (left ≡ below text)) (tail_at (first text) ≡ None)
+PassesTail found text left = MatchBool found ((tail_at (first text) ≡ Some tt) × (left ≡ after_line text)) (tail_at (first text) ≡ None)
 
 -- the line is a vertex line, whose successors are those of the list, and is taken with its end; or it is none
 abbrev pub PassesVertex : List ℕ → Option Head → List ℕ → List ℕ → Type 0
 PassesVertex targets (Some head) text left =
-    (numbers : List ℕ) × (line_at (first text) ≡ Some (line_said head numbers)) × (number_set targets ≡ number_set numbers) × (left ≡ below text)
+    (numbers : List ℕ) × (line_at (first text) ≡ Some (line_said head numbers)) × (number_set targets ≡ number_set numbers) × (left ≡ after_line text)
 PassesVertex targets None text left = line_at (first text) ≡ None

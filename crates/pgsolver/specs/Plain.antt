@@ -54,6 +54,6 @@ pub record IsLineThen (says : VertexLine) (text left : List ℕ) : Type 0 where
   pub is : line_at line ≡ Some says
 
 -- the line is a vertex line, and is taken; or nothing is
-abbrev pub PassesAtHand : List ℕ → Option Head → List ℕ → List ℕ → Type 0
-PassesAtHand targets (Some head) text left = PassesVertex targets (Some head) text left
-PassesAtHand targets None text left = left ≡ text
+abbrev pub PassesPgAtHand : List ℕ → Option Head → List ℕ → List ℕ → Type 0
+PassesPgAtHand targets (Some head) text left = PassesVertex targets (Some head) text left
+PassesPgAtHand targets None text left = left ≡ text

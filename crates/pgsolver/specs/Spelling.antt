@@ -4,7 +4,7 @@ use Rattle.std.specs.Prelude.{nat_le, ◌&&◌, codes}
 use Rattle.std.specs.List.{AllZip, AllByRecursion, list_all}
 use Rattle.text.specs.Text.{lines, is_blank, IsNumeral, IsSpaced}
 use Rattle.systems.specs.Label.{is_label_byte}
-use Rattle.normal.specs.declared.limits.TheConstants.{GREATEST_PRIORITY}
+use Rattle.forms.specs.declared.limits.TheConstants.{GREATEST_PRIORITY}
 use Rattle.game.specs.declared.limits.TheConstants.{MOST_VERTICES}
 use Rattle.game.specs.declared.player.Player.{Player}
 use Rattle.game.specs.Game.{Vertex, Game, vertex}
@@ -20,8 +20,8 @@ pub record VertexLine : Type 0 where
   pub successors : List ℕ
 
 -- `parity n;`
-abbrev pub IsHeader : List ℕ → ℕ → Type 0
-IsHeader line n = (i : List ℕ) × IsNumeral i n × IsSpaced (codes "parity" ∷ i ∷ codes ";" ∷ []) line
+abbrev pub IsPgHeader : List ℕ → ℕ → Type 0
+IsPgHeader line n = (i : List ℕ) × IsNumeral i n × IsSpaced (codes "parity" ∷ i ∷ codes ";" ∷ []) line
 
 -- these, with a comma before each
 abbrev pub with_commas : List (List ℕ) → List (List ℕ)
@@ -88,7 +88,7 @@ pub record IsGameText (text : List ℕ) (g : Game) : Type 0 where
   pub rest : List (List ℕ)
   pub spelled : List VertexLine
   pub cut : lines text ≡ first ∷ rest
-  pub header : IsHeader first n
+  pub header : IsPgHeader first n
   pub limit : n < MOST_VERTICES
   pub good : AreGoodLines n rest spelled
   pub complete : length rest ≡ n + 1

@@ -55,9 +55,9 @@ impl From<AllocError> for PgError {
 
 impl From<ReadFault> for PgError {
     ghost use Rattle.std.specs.Prelude.{◌≡◌};
-    ghost use Rattle.pgsolver.specs.Left.{unread};
+    ghost use Rattle.pgsolver.specs.Left.{pg_unread};
 
-    ghost from_gives = { λ fault e. e ≡ unread fault };
+    ghost from_gives = { λ fault e. e ≡ pg_unread fault };
 
     fn from(fault: ReadFault) -> Self {
         match fault {

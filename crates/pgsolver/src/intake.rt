@@ -5,7 +5,7 @@ ghost use Rattle.text.specs.Cause.{HasCause};
 ghost use Rattle.text.specs.Lines.{IfKnown};
 ghost use Rattle.text.specs.declared.error.ReadFault.TheVariants as reads;
 ghost use Rattle.pgsolver.specs.Passes.{PassesVertex};
-ghost use Rattle.pgsolver.specs.Plain.{PassesAtHand};
+ghost use Rattle.pgsolver.specs.Plain.{PassesPgAtHand};
 
 use crate::plain::{PlainLine, plain_line};
 use crate::scan::Head;
@@ -16,7 +16,7 @@ use text::source::{Blocks, fault_of};
 
 // Reads the line that is next where it stands whole in the block at hand, as tools write it. Else it takes nothing.
 fn at_hand<B: Blocks>(reader: &mut B, targets: &mut Vec<u32>) -> Result<Option<Head>, ReadFault>
-    ensures { MatchResult result (λ found. IfKnown (B.remaining reader.old) (B.remaining reader.new) (PassesAtHand targets.new.items found))
+    ensures { MatchResult result (λ found. IfKnown (B.remaining reader.old) (B.remaining reader.new) (PassesPgAtHand targets.new.items found))
         (HasCause B.can_fail reads.Read) }
 {
     let block = match reader.fill_buf() {

@@ -8,20 +8,20 @@ ghost use Rattle.pgsolver.specs.declared.error.PgError.TheVariants as errors;
 ghost use Rattle.text.specs.Reads.{Reads};
 ghost use Rattle.pgsolver.specs.Scan.{line_said};
 ghost use Rattle.pgsolver.specs.Spelling.{VertexLine, IsGameText};
-ghost use Rattle.pgsolver.specs.Fault.{HasFault, HasFaultAt};
+ghost use Rattle.pgsolver.specs.Fault.{HasPgFault, HasPgFaultAt};
 ghost use Rattle.pgsolver.specs.Left as left;
 ghost use Rattle.game.specs.Game.{Vertex};
 ghost use Rattle.lts.specs.Left.{HasNoLine};
-ghost use Rattle.pgsolver.specs.Left.{AreFilled, Refuses, BeginsGame, ArePlaces, LinesSoFar, AreAll, Says, IsSound, IsFaultOfLine, TellsFault, HasRestFault, named};
+ghost use Rattle.pgsolver.specs.Left.{AreFilled, RefusesPg, BeginsGame, ArePlaces, LinesSoFar, AreAll, Says, IsSound, IsFaultOfLine, TellsFault, HasPgRestFault, pg_fault_of};
 
 use crate::error::{PgError, PgFault};
 use crate::intake::vertex;
 use crate::rows::{Rows, make_set, put_in_order};
 use crate::scan::Head;
 use crate::tokens::header;
+use forms::limits::GREATEST_PRIORITY;
 use game::graph::Game;
 use game::limits::MOST_VERTICES;
-use normal::limits::GREATEST_PRIORITY;
 use std::alloc::Global;
 use text::source::{Blocks, Source, blocks_of};
 use text::stream::has_line;
@@ -30,7 +30,7 @@ use text::stream::has_line;
 fn read_first<B: Blocks>(reader: &mut B, kept: &mut Vec<u8>) -> Result<u32, PgError>
     ensures first { IfOk result (λ n. IfKnown (B.remaining reader.old) (B.remaining reader.new) (BeginsGame n)) }
     ensures within { IfOk result (λ n. n < MOST_VERTICES) }
-    ensures fault { IfErr result (Refuses (B.remaining reader.old) HasFault) }
+    ensures fault { IfErr result (RefusesPg (B.remaining reader.old) HasPgFault) }
     ensures cause { IfErr result (HasCause B.can_fail errors.Read) }
 {
     let Some(last) = header(reader, kept)? else {
@@ -113,7 +113,7 @@ fn read_row<B: Blocks>(
     ensures count { OnOk result (length rows.new.vertices ≡ good + 1) }
     ensures places { OnOk result (vec_len rows.new.places ≡ last + 1) }
     ensures fault { IfErr result (λ e. (old : Option (List ℕ)) → LinesSoFar last good old (B.remaining reader.old) rows.old.vertices rows.old.places.items
-        → Refuses old (HasRestFault last) e) }
+        → RefusesPg old (HasPgRestFault last) e) }
     ensures cause { IfErr result (HasCause B.can_fail errors.Read) }
 {
     let place = u64::from(good) + 2;
@@ -134,7 +134,7 @@ fn read_end<B: Blocks>(
 ) -> Result<(), PgError>
     ensures end { OnOk result (IfKnown (B.remaining reader.old) (B.remaining reader.new) HasNoLine) }
     ensures fault { IfErr result (λ e. (old : Option (List ℕ)) (vertices : List Vertex) (places : List (Option ℕ))
-        → LinesSoFar last (last + 1) old (B.remaining reader.old) vertices places → Refuses old (HasRestFault last) e) }
+        → LinesSoFar last (last + 1) old (B.remaining reader.old) vertices places → RefusesPg old (HasPgRestFault last) e) }
     ensures cause { IfErr result (HasCause B.can_fail errors.Read) }
 {
     if !has_line(reader)? {
@@ -164,7 +164,7 @@ fn read_rows<B: Blocks>(
     ensures game { OnOk result (IsGame (record { vertices = rows.new.vertices; named = None })) }
     ensures filled { OnOk result (AreFilled (length rows.new.vertices) rows.new.places.items) }
     ensures count { OnOk result (vec_len rows.new.places ≡ length rows.new.vertices) }
-    ensures fault { IfErr result (Refuses (B.remaining reader.old) (HasRestFault last)) }
+    ensures fault { IfErr result (RefusesPg (B.remaining reader.old) (HasPgRestFault last)) }
     ensures cause { IfErr result (HasCause B.can_fail errors.Read) }
 {
     for good in 0..last + 1 {
@@ -176,7 +176,7 @@ fn read_rows<B: Blocks>(
 // Reads the whole text.
 fn read_text<B: Blocks>(alloc: Global, reader: &mut B) -> Result<Game, PgError>
     ensures spelled { IfOk result (λ g. IfSome (B.remaining reader.old) (λ text. IsGameText text g)) }
-    ensures fault { IfErr result (Refuses (B.remaining reader.old) HasFault) }
+    ensures fault { IfErr result (RefusesPg (B.remaining reader.old) HasPgFault) }
     ensures cause { IfErr result (HasCause B.can_fail errors.Read) }
 {
     let mut kept = Vec::new(alloc);
@@ -195,7 +195,7 @@ fn read_text<B: Blocks>(alloc: Global, reader: &mut B) -> Result<Game, PgError>
 /// # Errors
 /// The first faulty line decides. A text is also refused where a read fails, or for want of memory.
 pub fn read_game<R: Source + Drop>(alloc: Global, reader: R) -> Result<Game, PgError>
-    ensures reads { Reads IsGameText IsGameText IsGameText HasFaultAt (λ g. g) named (R.remaining reader) result }
+    ensures reads { Reads IsGameText IsGameText IsGameText HasPgFaultAt (λ g. g) pg_fault_of (R.remaining reader) result }
     ensures cause { IfErr result (HasCause R.can_fail errors.Read) }
 {
     let Ok(mut blocks) = blocks_of(alloc, reader) else {

@@ -17,7 +17,7 @@ use game::player::Player;
 use std::alloc::AllocError;
 use text::error::ReadFault;
 use text::source::{Blocks, fault_after};
-use text::stream::{ends, number, number_before, quoted, sign, word};
+use text::stream::{has_ended, number, number_before, quoted, sign, word};
 
 // So many successors are kept as they stand, at least.
 const LEAST_ROOM: usize = 1024;
@@ -36,7 +36,7 @@ pub(crate) fn header<B: Blocks>(
     let Some(greatest) = number_before(reader, b';', kept)? else {
         return Ok(None);
     };
-    if !ends(reader)? {
+    if !has_ended(reader)? {
         return Ok(None);
     }
     Ok(Some(greatest))
@@ -186,7 +186,7 @@ fn tail<B: Blocks>(reader: &mut B, kept: &mut Vec<u8>) -> Result<bool, ReadFault
     if !sign(reader, b';')? {
         return Ok(false);
     }
-    ends(reader)
+    has_ended(reader)
 }
 
 /// Reads the line that is next as a vertex line, if it has the shape of one. Its successors are put into the list, where one that stands twice may be

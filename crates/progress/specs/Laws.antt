@@ -1,7 +1,7 @@
 -- What holds of all parity games and their progress measures (Jurdziński 2000).
 use Rattle.std.specs.Prelude.{◌≡◌, ◌≢◌, ◌<◌, ◌⊎◌, ◌↔◌, ◌≤◌, ◌*◌, ℕ, Contains, List, Option, Some, length}
 use Rattle.game.specs.declared.player.Player.TheVariants.{Even}
-use Rattle.normal.specs.declared.limits.TheConstants.{GREATEST_PRIORITY}
+use Rattle.forms.specs.declared.limits.TheConstants.{GREATEST_PRIORITY}
 use Rattle.game.specs.Game.{Game, IsGame, Vertex, dual, greatest, vertex}
 use Rattle.game.specs.Wins.{OddWins, Wins}
 use Rattle.progress.specs.Measure.{IsAtMost, IsMeasure, IsProg, IsRank, Measure, Top}

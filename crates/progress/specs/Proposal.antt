@@ -25,8 +25,8 @@ blank g = record {
 }
 
 -- the same, but for what is proposed of v
-abbrev pub put : Proposal → ℕ → Measure → ℕ → List ℕ → Proposal
-put c v m group rank = record {
+abbrev pub with_proposed : Proposal → ℕ → Measure → ℕ → List ℕ → Proposal
+with_proposed c v m group rank = record {
   game = c.game;
   values = slice_set c.values v m;
   groups = slice_set c.groups v group;

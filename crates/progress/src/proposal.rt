@@ -5,7 +5,7 @@ ghost use Rattle.std.specs.List.{AllByRecursion};
 ghost use Rattle.game.specs.Game.{IsGame, dual};
 ghost use Rattle.progress.specs.Measure.{Counts, IsMeasure, Top, components};
 ghost use Rattle.progress.specs.Progress.{IsLeastTable, IsTable};
-ghost use Rattle.progress.specs.Proposal.{Falls, HasReasonsAt, IsAskedBy, IsGoodProposal, IsGoodVertex, IsReason, blank, put};
+ghost use Rattle.progress.specs.Proposal.{Falls, HasReasonsAt, IsAskedBy, IsGoodProposal, IsGoodVertex, IsReason, blank, with_proposed};
 
 use crate::bounds::{bounds, dual_width};
 use crate::measure::Measure;
@@ -89,7 +89,7 @@ impl Proposal {
     pub fn put_top(&mut self, v: u32, group: u32, rank: &[u32])
         requires vertex { v < length self.old.game.vertices }
         requires rank { length rank.now ≡ length (components (dual self.old.game)) }
-        ensures { self.new ≡ put self.old v Top group rank.now }
+        ensures { self.new ≡ with_proposed self.old v Top group rank.now }
     {
         self.values.set(v as usize, &Measure::top());
         self.groups[v as usize] = group;
@@ -101,7 +101,7 @@ impl Proposal {
         requires vertex { v < length self.old.game.vertices }
         requires rank { length rank.now ≡ length (components (dual self.old.game)) }
         ensures measure { IsTrue result ↔ IsMeasure self.old.game (Counts counts.now) }
-        ensures put { self.new ≡ (if result then put self.old v (Counts counts.now) group rank.now else self.old) }
+        ensures put { self.new ≡ (if result then with_proposed self.old v (Counts counts.now) group rank.now else self.old) }
     {
         if !are_within(counts, self.bounds.as_slice()) {
             return false;

@@ -5,13 +5,13 @@ use Rattle.systems.specs.Numbered.{Numbered}
 use Rattle.systems.specs.System.{IsSystem}
 use Rattle.systems.specs.declared.system.Transition.{Transition}
 use Rattle.calculus.specs.Tree.{Action}
-use Rattle.normal.specs.Form.{IsNode, IsShape}
-use Rattle.normal.specs.Nodes.{Node}
-use Rattle.normal.specs.Tree.{ConstantNode, JunctionNode, ModalityNode}
+use Rattle.forms.specs.Form.{IsNode, IsShape}
+use Rattle.forms.specs.Nodes.{Node}
+use Rattle.forms.specs.Tree.{ConstantNode, JunctionNode, ModalityNode}
 use Rattle.game.specs.declared.player.Player.{Player}
 use Rattle.game.specs.Arena.{or_else, owner_of, place, sink, successors_of, targets, vertex_of}
 use Rattle.game.specs.Game.{Vertex}
-use Rattle.game.specs.Steps.{IsSetOf, is_in}
+use Rattle.forms.specs.Taken.{IsSetOf, is_in}
 use Rattle.progress.proofs.Lists.{contains_first, contains_later, contains_none}
 use Rattle.laws.proofs.Flags.{cases}
 use Rattle.laws.proofs.Lists.{in_map, of_map, of_two, only_in}

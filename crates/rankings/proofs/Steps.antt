@@ -10,7 +10,7 @@ use Rattle.systems.specs.declared.system.Transition.{Transition}
 use Rattle.calculus.specs.Tree.{Action}
 use Rattle.calculus.specs.Holds.{holds}
 use Rattle.game.specs.Arena.{targets}
-use Rattle.game.specs.Steps.{IsSetOf, is_in}
+use Rattle.forms.specs.Taken.{IsSetOf, is_in}
 use Rattle.progress.proofs.Lists.{contains_cases, contains_first, contains_later, contains_none}
 use Rattle.laws.proofs.Flags.{cases, same_true}
 use Rattle.laws.proofs.Lists.{in_map, of_map}

@@ -2,10 +2,10 @@
 
 ghost use Rattle.std.specs.Prelude.{◌≡◌, ◌<◌, ◌≤◌, ◌↔◌, ℕ, IsTrue, false, length, slice_index_or};
 ghost use Rattle.std.specs.List.{AllByRecursion};
-ghost use Rattle.normal.specs.Form.{IsNode};
-ghost use Rattle.normal.specs.View.{node_of, shape_of};
+ghost use Rattle.forms.specs.Form.{IsNode};
+ghost use Rattle.forms.specs.View.{node_of, shape_of};
 ghost use Rattle.game.specs.Arena.{vertex_of};
-ghost use Rattle.game.specs.Steps.{IsSetFor};
+ghost use Rattle.forms.specs.Taken.{IsSetFor};
 ghost use Rattle.rankings.specs.Cells.{cell, ranking_of};
 ghost use Rattle.rankings.specs.Columns.{number_at};
 ghost use Rattle.rankings.specs.Ranking.{IsRanked, winner_of};
@@ -15,8 +15,8 @@ use crate::column::Numbers;
 use crate::sheet::Sheet;
 use crate::slope::Slopes;
 use crate::slopes::winner;
+use forms::node::{Kind, Node};
 use game::player::Player;
-use normal::node::{Kind, Node};
 use systems::system::{Lts, Transition};
 
 /// States from the first one up to the end.

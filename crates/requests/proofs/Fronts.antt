@@ -7,7 +7,7 @@ use Rattle.std.proofs.lemmas.List.{take_all, length-take}
 use Rattle.calculus.specs.Tree.{Formula}
 use Rattle.formula.specs.Spells.{Spells, SpellsWithin}
 use Rattle.calculus.specs.Admitted.{IsAdmitted}
-use Rattle.formula.specs.Fault.{HasFault}
+use Rattle.formula.specs.Fault.{HasFormulaFault}
 use Rattle.formula.specs.declared.error.FormulaFault.{FormulaFault}
 use Rattle.formula.specs.declared.error.FormulaError.{FormulaError}
 use Rattle.formula.specs.declared.error.FormulaError.TheVariants.{Fault, Memory}
@@ -23,9 +23,9 @@ pub spells_front : (n : ℕ) (text : List ℕ) (f : Formula) → 1048576 < n →
 spells_front n text f m h = subst (λ t. SpellsWithin t f) (whole_front n text (omega (arith, h.short))) h
 
 -- the fault that decides a text's front decides the text
-pub fault_front : (n : ℕ) (text : List ℕ) (fault : FormulaFault) (place : ℕ) → 1048576 < n → HasFault (take n text) fault place → HasFault text fault place
+pub fault_front : (n : ℕ) (text : List ℕ) (fault : FormulaFault) (place : ℕ) → 1048576 < n → HasFormulaFault (take n text) fault place → HasFormulaFault text fault place
 fault_front n text fault place m (inl (long, is, at)) = inl (omega (arith, long, length-take n text), is, at)
-fault_front n text fault place m (inr (short, rest)) = subst (λ t. HasFault t fault place) (whole_front n text (omega (arith, short))) (inr (short, rest))
+fault_front n text fault place m (inr (short, rest)) = subst (λ t. HasFormulaFault t fault place) (whole_front n text (omega (arith, short))) (inr (short, rest))
 
 -- what is read to the end of a reader that was cut at a limit
 pub read_all : {S : Type 0} → (remaining : S → Option (List ℕ)) (t : Take S) (reader : S) (old new : List ℕ) → take_limit t ≡ 1048577 → take_inner t ≡ reader
@@ -55,7 +55,7 @@ formula_of_front (Some all) front text f h e s admitted only =
 
 -- The refusal of what was read is that of the text.
 pub refused_of : (all front text : List ℕ) (error : FormulaError) → front ≡ take 1048577 all → text ≡ front → IsTold text error → IsTold all error
-refused_of all front text (Fault fault offset) h e f = fault_front 1048577 all fault offset (omega arith) (subst (λ t. HasFault t fault offset) (e ∙ h) f)
+refused_of all front text (Fault fault offset) h e f = fault_front 1048577 all fault offset (omega arith) (subst (λ t. HasFormulaFault t fault offset) (e ∙ h) f)
 refused_of all front text Memory h e f = tt
 
 -- What spells a formula is its front.

@@ -2,17 +2,17 @@
 use Rattle.std.specs.Prelude.{◌≡◌, ℕ, ◌+◌, ◌*◌, ◌≤◌, Bool, false, List, [], length, Option, Some, Result, MatchResult}
 use Rattle.std.specs.List.{slice_index_or}
 use Rattle.systems.specs.System.{System}
-use Rattle.lts.specs.Aut.{IsAut, HasFault}
+use Rattle.lts.specs.Aut.{IsAut, HasAutFault}
 use Rattle.lts.specs.Canon.{aut_text}
-use Rattle.lts.specs.Left.{Refuses}
+use Rattle.lts.specs.Left.{RefusesAut}
 use Rattle.calculus.specs.Tree.{Formula}
 use Rattle.calculus.specs.Meaning.{MarksOf, Satisfies}
 use Rattle.formula.specs.Checked.{IsTold}
-use Rattle.normal.specs.declared.limits.TheConstants.{MOST_NODES, GREATEST_PRIORITY}
-use Rattle.normal.specs.declared.priorities.Priorities.{Priorities}
-use Rattle.normal.specs.Tree.{node_count}
-use Rattle.normal.specs.Nodes.{greatest_priority}
-use Rattle.normal.specs.Rules.{nodes_with}
+use Rattle.forms.specs.declared.limits.TheConstants.{MOST_NODES, GREATEST_PRIORITY}
+use Rattle.forms.specs.declared.priorities.Priorities.{Priorities}
+use Rattle.forms.specs.Tree.{node_count}
+use Rattle.forms.specs.Nodes.{greatest_node_priority}
+use Rattle.forms.specs.Rules.{nodes_with}
 use Rattle.normal.specs.Refused as normal
 use Rattle.game.specs.declared.limits.TheConstants.{MOST_VERTICES}
 use Rattle.game.specs.Refused as game
@@ -49,7 +49,7 @@ pub record AreSpelled (first second : List ℕ) (l : System) (f : Formula) : Typ
 -- the formula has a normal form within the limits, by this rule
 pub record HasForm (rule : Priorities) (f : Formula) : Type 0 where
   pub nodes : node_count f ≤ MOST_NODES
-  pub priorities : greatest_priority (nodes_with rule f) ≤ GREATEST_PRIORITY
+  pub priorities : greatest_node_priority (nodes_with rule f) ≤ GREATEST_PRIORITY
 
 -- and the system with it a game
 pub record HasGame (rule : Priorities) (l : System) (f : Formula) : Type 0 where
@@ -155,7 +155,7 @@ RefusesCheck way first second writers (error.Arguments e) = ⊥
 RefusesCheck way first second writers error.File = ⊥
 RefusesCheck way first second writers error.Read = SpellsSystem first × AreKept writers
 RefusesCheck way first second writers error.Memory = SpellsSystem first × AreKept writers
-RefusesCheck way first second writers (error.System e) = Refuses (Some first) HasFault e × AreKept writers
+RefusesCheck way first second writers (error.System e) = RefusesAut (Some first) HasAutFault e × AreKept writers
 RefusesCheck way first second writers (error.Formula e) = SpellsSystem first × IsTold second e × AreKept writers
 RefusesCheck way first second writers (error.Normal e) = HasNoGame way first second (error.Normal e) × AreKept writers
 RefusesCheck way first second writers (error.Build e) = HasNoGame way first second (error.Build e) × AreKept writers

@@ -7,12 +7,12 @@ ghost use Rattle.requests.specs.Check.{IsArenaOf};
 
 use crate::error::MuError;
 use calculus::closed::Closed;
+use forms::priorities::Priorities;
 use game::build::build_seen;
 use game::graph::Game;
 use gauge::Gauge;
 use lts::system::Lts;
 use normal::make::normal_with;
-use normal::priorities::Priorities;
 use std::alloc::Global;
 use std::thread::Threads;
 

@@ -2,7 +2,7 @@
 
 ghost use Rattle.std.specs.Prelude.{◌≡◌, ◌≤◌, ◌↔◌, None, IsTrue, false};
 
-use normal::priorities::Priorities;
+use forms::priorities::Priorities;
 pub use workers::team::BoardKind;
 
 /// The rule of priorities, and workers, locked shards and board.

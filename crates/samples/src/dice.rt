@@ -2,7 +2,7 @@
 
 ghost use Rattle.std.specs.Prelude.{◌<◌, ◌≤◌};
 
-use crate::games::push;
+use crate::games::push_row;
 use game::graph::{Game, GameBuilder};
 use game::player::Player;
 use std::alloc::AllocError;
@@ -63,7 +63,7 @@ fn roll_vertex(
     } else {
         Player::Odd
     };
-    push(builder, owner, dice.roll(priorities) as u8, successors)
+    push_row(builder, owner, dice.roll(priorities) as u8, successors)
 }
 
 /// A game of so many vertices, whose priorities are below so many.

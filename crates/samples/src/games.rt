@@ -1,6 +1,6 @@
 // Games by their rows, and those of formulas.
 
-use crate::texts::{form_of, system_of};
+use crate::texts::{form_of, system_read};
 use game::build::build;
 use game::graph::{Game, GameBuilder};
 use game::limits::MOST_VERTICES;
@@ -13,7 +13,7 @@ use std::thread::Threads;
 pub type Row = (Player, u8, &'static [u32]);
 
 /// One more vertex. A builder that is full has no room for it.
-pub fn push(
+pub fn push_row(
     builder: &mut GameBuilder,
     owner: Player,
     priority: u8,
@@ -29,19 +29,19 @@ pub fn push(
 pub fn made(rt: &impl AllocGlobal, rows: &[Row]) -> Result<Option<Game>, AllocError> {
     let mut builder = GameBuilder::new(rt.alloc());
     for (owner, priority, successors) in rows {
-        push(&mut builder, *owner, *priority, successors)?;
+        push_row(&mut builder, *owner, *priority, successors)?;
     }
     Ok(builder.finish())
 }
 
 /// The game of these vertices, which make one, where memory suffices.
-pub fn game_of(rt: &impl AllocGlobal, rows: &[Row]) -> Option<Game> {
+pub fn game_of_rows(rt: &impl AllocGlobal, rows: &[Row]) -> Option<Game> {
     made(rt, rows).ok()?
 }
 
 /// The game of these vertices, to be shared, where they make one and memory suffices.
 pub fn shared_game_of(rt: &impl AllocGlobal, rows: &[Row]) -> Option<Arc<Game>> {
-    Arc::new(rt.alloc(), game_of(rt, rows)?).ok()
+    Arc::new(rt.alloc(), game_of_rows(rt, rows)?).ok()
 }
 
 /// The game of the texts of a system and of a formula, to be shared, where they are such and memory suffices.
@@ -50,7 +50,7 @@ pub fn shared_arena_of(
     system: &str,
     formula: &str,
 ) -> Option<Arc<Game>> {
-    let lts = system_of(rt.alloc(), system).ok()?;
+    let lts = system_read(rt.alloc(), system).ok()?;
     let form = form_of(rt.alloc(), formula)?;
     let game = build(rt, rt.alloc(), &lts, &form).ok()?;
     Arc::new(rt.alloc(), game).ok()

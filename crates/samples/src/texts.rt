@@ -1,10 +1,10 @@
 // Texts of systems and formulas, and what they are read as.
 
 use calculus::closed::Closed;
+use forms::form::Normal;
 use formula::error::FormulaError;
 use formula::parse;
 use lts::{AutError, Lts, read_aut};
-use normal::form::Normal;
 use normal::make::normal;
 use std::alloc::{AllocError, Global};
 
@@ -12,7 +12,7 @@ use std::alloc::{AllocError, Global};
 pub const RING: &str = "des (0,2,2)\n(0,\"a\",1)\n(1,\"b\",0)\n";
 
 /// `head`, then `part` this often, then `tail`.
-pub fn repeated(
+pub fn repeated_text(
     alloc: Global,
     head: &str,
     part: &str,
@@ -38,16 +38,16 @@ pub fn ring(alloc: Global, states: usize) -> Result<String, AllocError> {
     Ok(text)
 }
 
-pub fn system_of(alloc: Global, text: &str) -> Result<Lts, AutError> {
+pub fn system_read(alloc: Global, text: &str) -> Result<Lts, AutError> {
     read_aut(alloc, text.as_bytes())
 }
 
-pub fn formula_of(alloc: Global, text: &str) -> Result<Closed, FormulaError> {
+pub fn parsed_formula(alloc: Global, text: &str) -> Result<Closed, FormulaError> {
     parse(alloc, text.as_bytes())
 }
 
 /// The normal form of the text's formula, if it has one.
 pub fn form_of(alloc: Global, text: &str) -> Option<Normal> {
-    let formula = formula_of(alloc, text).ok()?;
+    let formula = parsed_formula(alloc, text).ok()?;
     normal(alloc, &formula).ok()
 }

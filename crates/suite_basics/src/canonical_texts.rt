@@ -2,7 +2,7 @@
 
 use formula::error::FormulaError;
 use formula::print;
-use samples::texts::formula_of;
+use samples::texts::parsed_formula;
 use samples::writers::{AMPLE, Narrow};
 use std::alloc::Global;
 
@@ -22,7 +22,7 @@ const TEXTS: [(&str, &str); 5] = [
 
 // Whether a writer with so much room takes this of the canonical text, and a fault is told just where that isn't all.
 fn prints(alloc: Global, text: &str, room: usize, wanted: &str) -> Result<bool, FormulaError> {
-    let formula = formula_of(alloc, text)?;
+    let formula = parsed_formula(alloc, text)?;
     let mut out = Narrow::new(alloc, 7, room);
     let is_whole = print(&formula, &mut out).is_ok();
     Ok(is_whole == (room == AMPLE) && out.taken.as_slice() == wanted.as_bytes())

@@ -3,6 +3,6 @@
 use std::process::Abort;
 
 /// Of a text what was found is what was wanted.
-pub fn same(rt: &impl Abort, text: &str, found: &str, wanted: &str) {
+pub(crate) fn same(rt: &impl Abort, text: &str, found: &str, wanted: &str) {
     assert_eq!(rt; found, wanted, "{text}");
 }

@@ -14,7 +14,7 @@ use game::dual::greatest_priority;
 use game::graph::Game;
 use measures::settle::solve_one;
 use samples::readers::Slow;
-use samples::texts::{RING, form_of, repeated, system_of};
+use samples::texts::{RING, form_of, repeated_text, system_read};
 use samples::writers::{AMPLE, Narrow};
 use std::alloc::{AllocError, Global};
 use std::process::Abort;
@@ -35,7 +35,7 @@ const ODD_OF_STEP: &str = "evidence odd\n1 - (0)\n4 - (1)\n";
 
 // The game of a formula on the ring.
 fn game_of_formula(rt: &(impl Abort + AllocGlobal + Threads + Sync), formula: &str) -> Game {
-    let lts = system_of(rt.alloc(), RING).expect(rt, "a system");
+    let lts = system_read(rt.alloc(), RING).expect(rt, "a system");
     let form = form_of(rt.alloc(), formula).expect(rt, "a normal form");
     build(rt, rt.alloc(), &lts, &form).expect(rt, "memory")
 }
@@ -220,7 +220,7 @@ const LONG: [(&str, &str, &str, &str); 10] = [
 fn long_lines_are_refused(rt: HostRuntime) {
     let game = game_of_formula(&rt, OFTEN_A);
     for (front, part, back, wanted) in &LONG {
-        let text = repeated(rt.alloc(), front, part, 300, back).expect(&rt, "memory");
+        let text = repeated_text(rt.alloc(), front, part, 300, back).expect(&rt, "memory");
         refuses(&rt, &game, text.as_str(), wanted);
     }
 }

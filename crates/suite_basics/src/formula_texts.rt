@@ -3,7 +3,7 @@
 
 use crate::common::same;
 use formula::parse;
-use samples::texts::repeated;
+use samples::texts::repeated_text;
 use std::alloc::{AllocError, Global};
 use std::process::Abort;
 
@@ -89,8 +89,10 @@ const LIMITS: [(&str, usize, &str, &str, usize, &str); 10] = [
 #[test]
 fn limits_are_met_exactly(rt: HostRuntime) {
     for (open, times, middle, close, again, wanted) in &LIMITS {
-        let front = repeated(rt.alloc(), "", open, *times, middle).expect(&rt, "memory");
-        let text = repeated(rt.alloc(), front.as_str(), close, *again, "").expect(&rt, "memory");
+        let front = repeated_text(rt.alloc(), "", open, *times, middle).expect(&rt, "memory");
+        let text = repeated_text(rt.alloc(), front.as_str(), close, *again, "").expect(
+            &rt, "memory",
+        );
         same(
             &rt,
             open,

@@ -6,9 +6,9 @@ use game::build::build;
 use game::graph::Game;
 use game::player::Player;
 use pgsolver::{read_game, write_game};
-use samples::games::{Row, game_of};
+use samples::games::{Row, game_of_rows};
 use samples::readers::{Halting, Slow};
-use samples::texts::{form_of, repeated, system_of};
+use samples::texts::{form_of, repeated_text, system_read};
 use samples::writers::{AtEnd, Narrow};
 use std::alloc::{AllocError, Global};
 use std::io::Read;
@@ -109,7 +109,7 @@ const NAMES: [(usize, &str, &str); 7] = [
 #[test]
 fn a_name_has_a_limit(rt: HostRuntime) {
     for (count, end, wanted) in &NAMES {
-        let text = repeated(rt.alloc(), "parity 0;\n0 0 0 0\"", "x", *count, end).expect(
+        let text = repeated_text(rt.alloc(), "parity 0;\n0 0 0 0\"", "x", *count, end).expect(
             &rt, "memory",
         );
         tells(&rt, "a name", text.as_bytes(), wanted);
@@ -133,7 +133,7 @@ const ENDS: [(&str, &str); 6] = [
 fn successors_stand_again_and_again(rt: HostRuntime) {
     let lines = "parity 3;\n3 0 0 3;\n2 0 0 2;\n1 0 0 1;\n0 0 0 3";
     for (end, wanted) in &ENDS {
-        let text = repeated(rt.alloc(), lines, ", 1 ,3", 2_500, end).expect(&rt, "memory");
+        let text = repeated_text(rt.alloc(), lines, ", 1 ,3", 2_500, end).expect(&rt, "memory");
         tells(&rt, "successors", text.as_bytes(), wanted);
     }
 }
@@ -185,7 +185,7 @@ fn want_of_memory_is_told_as_such(rt: HostRuntime) {
 // A game that `build` made is written with its names, and read again without them.
 #[test]
 fn names_are_written_and_not_read(rt: HostRuntime) {
-    let lts = system_of(rt.alloc(), "des (0,0,1)").expect(&rt, "a system");
+    let lts = system_read(rt.alloc(), "des (0,0,1)").expect(&rt, "a system");
     let form = form_of(rt.alloc(), "[true]false").expect(&rt, "a formula");
     let game = build(&rt, rt.alloc(), &lts, &form).expect(&rt, "memory");
     let text = text_of(rt.alloc(), &game).expect(&rt, "memory");
@@ -210,7 +210,7 @@ const ROWS: [Row; 2] = [(Player::Even, 0, &[1]), (Player::Odd, 1, &[0])];
 // A writer without room for the whole text is given a beginning, and a fault is told.
 #[test]
 fn a_failed_write_leaves_a_beginning(rt: HostRuntime) {
-    let game = game_of(&rt, &ROWS).expect(&rt, "a game");
+    let game = game_of_rows(&rt, &ROWS).expect(&rt, "a game");
     for room in 0..TWO.len() {
         for at_end in [AtEnd::Fails, AtEnd::TakesNothing] {
             let mut out = Narrow::new(rt.alloc(), 4, room);

@@ -8,8 +8,8 @@ use game::build::{build, build_split};
 use game::error::BuildError;
 use game::graph::Game;
 use game::player::Player;
-use samples::games::{Row, game_of, made};
-use samples::texts::{RING, form_of, repeated, system_of};
+use samples::games::{Row, game_of_rows, made};
+use samples::texts::{RING, form_of, repeated_text, system_read};
 use std::alloc::{AllocError, Global};
 use std::thread::Threads;
 
@@ -41,7 +41,7 @@ fn text_of(alloc: Global, game: Result<Game, BuildError>) -> Result<String, Allo
 
 // The same of texts, if they are a system and a formula.
 fn built(rt: &(impl AllocGlobal + Threads + Sync), system: &str, formula: &str) -> Option<String> {
-    let lts = system_of(rt.alloc(), system).ok()?;
+    let lts = system_read(rt.alloc(), system).ok()?;
     let form = form_of(rt.alloc(), formula)?;
     text_of(rt.alloc(), build(rt, rt.alloc(), &lts, &form)).ok()
 }
@@ -55,7 +55,7 @@ fn split(
 ) -> Option<String>
     requires { 1 ≤ ranges }
 {
-    let lts = system_of(rt.alloc(), system).ok()?;
+    let lts = system_read(rt.alloc(), system).ok()?;
     let form = form_of(rt.alloc(), formula)?;
     text_of(
         rt.alloc(),
@@ -139,7 +139,7 @@ const MILLION: &str = "des (0,0,1000000)\n";
 // A million states with one node fit.
 #[test]
 fn a_million_states_have_vertices(rt: HostRuntime) {
-    let lts = system_of(rt.alloc(), MILLION).expect(&rt, "a system");
+    let lts = system_read(rt.alloc(), MILLION).expect(&rt, "a system");
     let form = form_of(rt.alloc(), "true").expect(&rt, "a normal form");
     assert!(rt;
         build(&rt, rt.alloc(), &lts, &form)
@@ -152,7 +152,7 @@ fn a_million_states_have_vertices(rt: HostRuntime) {
 // The vertex of each state with each node.
 #[test]
 fn vertices_are_known_by_their_names(rt: HostRuntime) {
-    let lts = system_of(rt.alloc(), RING).expect(&rt, "a system");
+    let lts = system_read(rt.alloc(), RING).expect(&rt, "a system");
     let form = form_of(rt.alloc(), "<a>true").expect(&rt, "a normal form");
     let game = build(&rt, rt.alloc(), &lts, &form).expect(&rt, "memory");
     assert!(rt; lts.states() == 2 && form.count() == 2);
@@ -164,7 +164,7 @@ fn vertices_are_known_by_their_names(rt: HostRuntime) {
 // With seventeen nodes they don't.
 #[test]
 fn vertices_are_counted_before_they_are_made(rt: HostRuntime) {
-    let formula = repeated(rt.alloc(), "", "<a>", 16, "true").expect(&rt, "memory");
+    let formula = repeated_text(rt.alloc(), "", "<a>", 16, "true").expect(&rt, "memory");
     let told = built(&rt, MILLION, formula.as_str()).expect(&rt, "texts");
     same(&rt, "a million states", told.as_str(), "B1");
 }
@@ -177,7 +177,7 @@ const THREE: [Row; 3] = [
 
 #[test]
 fn games_are_made_by_hand(rt: HostRuntime) {
-    let game = game_of(&rt, &THREE).expect(&rt, "a game");
+    let game = game_of_rows(&rt, &THREE).expect(&rt, "a game");
     let told = shown(rt.alloc(), &game).expect(&rt, "memory");
     same(&rt, "three", told.as_str(), "0 0 0 0\n1 1 1 0 2\n2 1 0 1\n");
     assert!(rt; game.count(1) == 2 && game.count(40) == 0);

@@ -2,7 +2,7 @@
 
 use game::build::build_seen;
 use gauge::{Gauge, Reading};
-use samples::texts::{RING, form_of, system_of};
+use samples::texts::{RING, form_of, system_read};
 
 #[test]
 fn a_gauge_shows_nothing_before_a_part_begins(rt: HostRuntime) {
@@ -42,7 +42,7 @@ fn a_gauge_that_is_cleared_shows_nothing(rt: HostRuntime) {
 
 #[test]
 fn a_game_shows_how_many_of_its_vertices_are_made(rt: HostRuntime) {
-    let lts = system_of(rt.alloc(), RING).expect(&rt, "a system");
+    let lts = system_read(rt.alloc(), RING).expect(&rt, "a system");
     let form = form_of(rt.alloc(), "<a>true").expect(&rt, "a normal form");
     let gauge = Gauge::new();
     let game = build_seen(&rt, rt.alloc(), &lts, &form, Some(&gauge)).expect(&rt, "memory");

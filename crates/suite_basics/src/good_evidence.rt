@@ -15,8 +15,8 @@ use game::dual::{dual, greatest_priority};
 use game::graph::{Game, GameBuilder};
 use game::player::Player;
 use measures::settle::solve_one;
-use samples::games::{Row, game_of};
-use samples::texts::{RING, form_of, system_of};
+use samples::games::{Row, game_of_rows};
+use samples::texts::{RING, form_of, system_read};
 use std::alloc::{AllocError, Global};
 use std::process::Abort;
 use std::thread::Threads;
@@ -113,7 +113,7 @@ const EXAMPLE: Wanted = Wanted {
 
 // The game of the example.
 fn example(rt: &(impl Abort + AllocGlobal + Threads + Sync)) -> Game {
-    let lts = system_of(rt.alloc(), RING).expect(rt, "a system");
+    let lts = system_read(rt.alloc(), RING).expect(rt, "a system");
     let form = form_of(rt.alloc(), "nu X. mu Y. (<a>X || <b>Y)").expect(rt, "a normal form");
     build(rt, rt.alloc(), &lts, &form).expect(rt, "memory")
 }
@@ -168,7 +168,7 @@ const SMALL: [(&[Row], Wanted); 2] = [
 #[test]
 fn evidence_of_small_games(rt: HostRuntime) {
     for (rows, wanted) in &SMALL {
-        let game = game_of(&rt, rows).expect(&rt, "a game");
+        let game = game_of_rows(&rt, rows).expect(&rt, "a game");
         gives_both(&rt, &game, wanted);
     }
 }

@@ -4,7 +4,7 @@ use calculus::closed::Closed;
 use calculus::holds;
 use calculus::tree::{Reg, State};
 use lts::Label;
-use samples::texts::formula_of;
+use samples::texts::parsed_formula;
 use std::alloc::{AllocError, Global};
 use std::process::Abort;
 
@@ -70,7 +70,7 @@ fn says_of(formula: &Closed, label: &Label, says: bool) -> bool {
 
 fn is_as_wanted(rt: &(impl Abort + AllocGlobal), label: &str, formula: &str, says: bool) -> bool {
     let label = Label::new(rt.alloc(), label.as_bytes()).expect(rt, "memory");
-    let formula = formula_of(rt.alloc(), formula).expect(rt, "a formula");
+    let formula = parsed_formula(rt.alloc(), formula).expect(rt, "a formula");
     says_of(&formula, &label, says)
 }
 

@@ -210,7 +210,7 @@ fn signs_and_ends_are_read(rt: HostRuntime) {
     }
     for (text, wanted) in &TEXT_ENDS {
         let mut reader = blocks_of(rt.alloc(), text.as_bytes()).expect(&rt, "memory");
-        let found = stream::ends(&mut reader);
+        let found = stream::has_ended(&mut reader);
         assert!(rt; is_rest(left_by(found, reader.buffer()), wanted), "{text}");
     }
     let mut none = blocks_of(rt.alloc(), b"".as_slice()).expect(&rt, "memory");

@@ -5,7 +5,7 @@ use crate::common::same;
 use calculus::closed::Closed;
 use lts::Lts;
 use meaning::plain::plain_states;
-use samples::texts::{RING, formula_of, repeated, ring, system_of};
+use samples::texts::{RING, parsed_formula, repeated_text, ring, system_read};
 use std::process::Abort;
 
 // To its second state by `a`, and there round by `b`.
@@ -62,8 +62,8 @@ fn shown(rt: &(impl Abort + AllocGlobal), lts: &Lts, formula: &Closed) -> String
 }
 
 fn marks(rt: &(impl Abort + AllocGlobal), system: &str, formula: &str) -> String {
-    let lts = system_of(rt.alloc(), system).expect(rt, "a system");
-    let formula = formula_of(rt.alloc(), formula).expect(rt, "a formula");
+    let lts = system_read(rt.alloc(), system).expect(rt, "a system");
+    let formula = parsed_formula(rt.alloc(), formula).expect(rt, "a formula");
     shown(rt, &lts, &formula)
 }
 
@@ -88,7 +88,7 @@ const LARGE: [(&str, &str, usize, &str, &str); 5] = [
 #[test]
 fn large_formulas_hold_too(rt: HostRuntime) {
     for (head, part, times, tail, wanted) in &LARGE {
-        let formula = repeated(rt.alloc(), head, part, *times, tail).expect(&rt, "memory");
+        let formula = repeated_text(rt.alloc(), head, part, *times, tail).expect(&rt, "memory");
         same(
             &rt,
             head,

@@ -3,11 +3,11 @@
 use crate::common::same;
 use calculus::closed::Closed;
 use calculus::tree::Act;
-use normal::count::count;
-use normal::form::Normal;
+use forms::form::Normal;
+use forms::node::Kind;
+use normal::count::counted_nodes;
 use normal::make::normal;
-use normal::node::Kind;
-use samples::texts::{form_of, formula_of, repeated};
+use samples::texts::{form_of, parsed_formula, repeated_text};
 use std::alloc::{AllocError, Global};
 
 // The name of a multi-action of one name of these tests.
@@ -96,7 +96,7 @@ fn nodes_are_numbered_in_preorder(rt: HostRuntime) {
 fn size_of(alloc: Global, formula: &Closed) -> Result<String, AllocError> {
     match normal(alloc, formula) {
         Ok(form) => {
-            let counted = count(formula.tree()).unwrap_or(0);
+            let counted = counted_nodes(formula.tree()).unwrap_or(0);
             format!(in alloc; "{counted} {} {}", form.nodes().len(), form.depth())
         }
         Err(error) => error.to_string(alloc),
@@ -105,7 +105,7 @@ fn size_of(alloc: Global, formula: &Closed) -> Result<String, AllocError> {
 
 // The same of a text, if it is a formula.
 fn size(alloc: Global, text: &str) -> Option<String> {
-    let formula = formula_of(alloc, text).ok()?;
+    let formula = parsed_formula(alloc, text).ok()?;
     size_of(alloc, &formula).ok()
 }
 
@@ -122,7 +122,7 @@ const SIZES: [(&str, &str, usize, &str, &str); 6] = [
 #[test]
 fn limits_are_met_exactly(rt: HostRuntime) {
     for (head, part, times, tail, wanted) in &SIZES {
-        let text = repeated(rt.alloc(), head, part, *times, tail).expect(&rt, "memory");
+        let text = repeated_text(rt.alloc(), head, part, *times, tail).expect(&rt, "memory");
         let told = size(rt.alloc(), text.as_str()).expect(&rt, "a formula");
         same(&rt, head, told.as_str(), wanted);
     }

@@ -2,10 +2,10 @@
 
 use crate::common::same;
 use calculus::closed::Closed;
+use forms::priorities::Priorities;
 use normal::make::normal_with;
 use normal::printer::print_normal;
-use normal::priorities::Priorities;
-use samples::texts::{form_of, formula_of, repeated};
+use samples::texts::{form_of, parsed_formula, repeated_text};
 use samples::writers::{AMPLE, Narrow};
 use std::alloc::{AllocError, Global};
 
@@ -61,7 +61,7 @@ fn first_line_of(alloc: Global, formula: &Closed, rule: Priorities) -> Result<St
 }
 
 fn first_line(alloc: Global, text: &str, rule: Priorities) -> Option<String> {
-    let formula = formula_of(alloc, text).ok()?;
+    let formula = parsed_formula(alloc, text).ok()?;
     first_line_of(alloc, &formula, rule).ok()
 }
 
@@ -121,7 +121,7 @@ const LINES: [(&str, &str, usize, &str, &str, &str); 7] = [
 #[test]
 fn first_lines_are_those_of_the_rule(rt: HostRuntime) {
     for (head, part, times, tail, nested, dependent) in &LINES {
-        let text = repeated(rt.alloc(), head, part, *times, tail).expect(&rt, "memory");
+        let text = repeated_text(rt.alloc(), head, part, *times, tail).expect(&rt, "memory");
         let by_nested = first_line(rt.alloc(), text.as_str(), Priorities::Nested);
         let by_dependent = first_line(rt.alloc(), text.as_str(), Priorities::Dependent);
         same(&rt, head, by_nested.expect(&rt, "a line").as_str(), nested);

@@ -6,7 +6,7 @@ use crate::common::same;
 use lts::{read_aut, write_aut};
 use samples::dice::Dice;
 use samples::readers::Slow;
-use samples::texts::{repeated, ring};
+use samples::texts::{repeated_text, ring};
 use std::alloc::{AllocError, Global};
 use std::process::Abort;
 
@@ -91,7 +91,7 @@ const BAD_LINES: [(&str, &str); 28] = [
 ];
 
 fn tells_with(rt: &(impl Abort + AllocGlobal), line: &str, wanted: &str) {
-    let text = repeated(rt.alloc(), BEFORE, line, 1, AFTER).expect(rt, "memory");
+    let text = repeated_text(rt.alloc(), BEFORE, line, 1, AFTER).expect(rt, "memory");
     tells(rt, text.as_bytes(), wanted);
 }
 
@@ -131,7 +131,9 @@ fn a_text_is_cut_at_each_byte(rt: HostRuntime) {
 fn lines_go_on_in_the_next_block(rt: HostRuntime) {
     let wanted = ring(rt.alloc(), 1200).expect(&rt, "memory");
     for blanks in 0..20 {
-        let text = repeated(rt.alloc(), "", " ", blanks, wanted.as_str()).expect(&rt, "memory");
+        let text = repeated_text(rt.alloc(), "", " ", blanks, wanted.as_str()).expect(
+            &rt, "memory",
+        );
         tells(&rt, text.as_bytes(), wanted.as_str());
     }
 }

@@ -3,7 +3,7 @@
 use crate::common::same;
 use hints::absent::first_absent;
 use hints::strange::{Word, strange_words};
-use samples::texts::{RING, formula_of, repeated, system_of};
+use samples::texts::{RING, parsed_formula, repeated_text, system_read};
 use std::alloc::{AllocError, Global};
 use std::process::Abort;
 
@@ -23,8 +23,8 @@ fn shown(alloc: Global, words: &[Word<'_>]) -> Result<String, AllocError> {
 
 /// The strange words of these texts.
 fn strange(rt: &(impl Abort + AllocGlobal), system: &str, formula: &str) -> String {
-    let system = system_of(rt.alloc(), system).expect(rt, "a system");
-    let formula = formula_of(rt.alloc(), formula).expect(rt, "a formula");
+    let system = system_read(rt.alloc(), system).expect(rt, "a system");
+    let formula = parsed_formula(rt.alloc(), formula).expect(rt, "a formula");
     let words = strange_words(rt.alloc(), &system, &formula).expect(rt, "memory");
     shown(rt.alloc(), &words).expect(rt, "memory")
 }
@@ -66,7 +66,7 @@ fn no_more_than_ten_are_told(rt: HostRuntime) {
     let found = strange(&rt, RING, formula);
     let ten = "name c;name d;name e;name f;name g;name h;name i;name j;name k;name l;";
     same(&rt, formula, found.as_str(), ten);
-    let long = repeated(rt.alloc(), "", "<a>", 200, "<z>true").expect(&rt, "memory");
+    let long = repeated_text(rt.alloc(), "", "<a>", 200, "<z>true").expect(&rt, "memory");
     same(
         &rt,
         "long",
@@ -95,7 +95,7 @@ const ABSENT: [(&str, &str, Option<usize>); 13] = [
 #[test]
 fn the_first_absent_word_has_its_place(rt: HostRuntime) {
     for (system, formula, wanted) in &ABSENT {
-        let system = system_of(rt.alloc(), system).expect(&rt, "a system");
+        let system = system_read(rt.alloc(), system).expect(&rt, "a system");
         let found = first_absent(rt.alloc(), &system, formula.as_bytes());
         assert!(rt; found.expect(&rt, "memory") == *wanted, "{formula}");
     }

@@ -4,7 +4,7 @@
 use crate::common::same;
 use lts::{Lts, read_aut};
 use samples::readers::{Halting, Slow};
-use samples::texts::{RING, repeated, system_of};
+use samples::texts::{RING, repeated_text, system_read};
 use std::alloc::{AllocError, Global};
 use std::io::Read;
 use std::process::Abort;
@@ -79,7 +79,7 @@ fn texts_are_read(rt: HostRuntime) {
 #[test]
 fn labels_have_at_most_4096_bytes(rt: HostRuntime) {
     for (length, wanted) in [(4096, "1 0 1 1"), (4097, "A7 at line 2")] {
-        let text = repeated(rt.alloc(), "des (0,1,1)\n(0,\"", "a", length, "\",0)\n").expect(
+        let text = repeated_text(rt.alloc(), "des (0,1,1)\n(0,\"", "a", length, "\",0)\n").expect(
             &rt, "memory",
         );
         shows(&rt, text.as_str(), wanted);
@@ -100,7 +100,7 @@ const LONG_LINES: [(&str, &str, &str, &str); 7] = [
 #[test]
 fn long_lines_are_read(rt: HostRuntime) {
     for (head, part, tail, wanted) in &LONG_LINES {
-        let text = repeated(rt.alloc(), head, part, 100_000, tail).expect(&rt, "memory");
+        let text = repeated_text(rt.alloc(), head, part, 100_000, tail).expect(&rt, "memory");
         let told = shown(rt.alloc(), text.as_bytes()).expect(&rt, "memory");
         same(&rt, part, told.as_str(), wanted);
     }
@@ -165,7 +165,7 @@ fn moves(rt: &(impl Abort + AllocGlobal), lts: &Lts, state: u32) -> Vec<u8> {
 
 #[test]
 fn transitions_are_found_by_their_state(rt: HostRuntime) {
-    let lts = system_of(
+    let lts = system_read(
         rt.alloc(),
         "des (0,4,3)\n(2,\"b\",0)\n(0,\"tau\",2)\n(2,\"a|b\",1)\n(2,\"b\",2)\n",
     )

@@ -2,22 +2,23 @@
 
 ghost use Rattle.std.specs.Prelude.{◌≡◌, ◌<◌, ◌≤◌};
 ghost use Rattle.systems.specs.Numbered.{IsInside};
-ghost use Rattle.normal.specs.Normal.{normal_nodes};
+ghost use Rattle.forms.specs.Normal.{normal_nodes};
 ghost use Rattle.game.specs.Arena.{arena};
 ghost use Rattle.game.specs.Game.{greatest};
 
 use calculus::closed::Closed;
 use evidence::make::{even_evidence, odd_evidence};
-use game::build::{build, label_sets};
+use forms::form::Normal;
+use forms::labels::label_sets;
+use forms::limits::GREATEST_PRIORITY;
+use game::build::build;
 use game::graph::Game;
 use lts::{Lts, Transition, read_aut, write_part};
 use meaning::plain::plain_states;
 use measures::settle::solve_one;
-use normal::form::Normal;
-use normal::limits::GREATEST_PRIORITY;
 use normal::make::normal;
 use samples::dice::Dice;
-use samples::texts::{RING, form_of, formula_of, system_of};
+use samples::texts::{RING, form_of, parsed_formula, system_read};
 use samples::writers::{AMPLE, AtEnd, Narrow};
 use std::alloc::{AllocError, Global};
 use std::process::Abort;
@@ -89,7 +90,7 @@ fn holds_at_first(rt: &(impl Abort + AllocGlobal), system: &Lts, formula: &Close
 
 // The part is a system, in which the formula holds at the initial state where it holds there in the whole. It answers the part's text.
 fn shows(rt: &(impl Abort + AllocGlobal + Threads + Sync), system: &Lts, text: &str) -> Vec<u8> {
-    let formula = formula_of(rt.alloc(), text).expect(rt, "a formula");
+    let formula = parsed_formula(rt.alloc(), text).expect(rt, "a formula");
     let part = part_of(rt, system, &formula);
     let bytes = written(rt, system, &part);
     let read = read_aut(rt.alloc(), bytes.as_slice()).expect(rt, "a system");
@@ -123,7 +124,7 @@ const ROWS: [(&str, &str, &str); 13] = [
 #[test]
 fn parts_have_what_the_answer_rests_on(rt: HostRuntime) {
     for (system, formula, wanted) in &ROWS {
-        let system = system_of(rt.alloc(), system).expect(&rt, "a system");
+        let system = system_read(rt.alloc(), system).expect(&rt, "a system");
         let bytes = shows(&rt, &system, formula);
         assert!(rt; bytes.as_slice() == wanted.as_bytes(), "{formula}");
     }
@@ -161,7 +162,7 @@ fn roll_system(rt: &(impl Abort + AllocGlobal), dice: &mut Dice, states: u32) ->
     let text = format!(in rt.alloc(); "des ({initial},{count},{states})\n{lines}").expect(
         rt, "memory",
     );
-    system_of(rt.alloc(), text.as_str()).expect(rt, "a system")
+    system_read(rt.alloc(), text.as_str()).expect(rt, "a system")
 }
 
 #[test]
@@ -229,7 +230,7 @@ fn way_of(system: &Lts, part: &[Transition]) -> Option<u32> {
 // The evidence's ranks count the steps here, and its moves have the least; so the way is a shortest one.
 #[test]
 fn a_deadlock_is_shown_by_a_shortest_way(rt: HostRuntime) {
-    let formula = formula_of(rt.alloc(), "[true*]<true>true").expect(&rt, "a formula");
+    let formula = parsed_formula(rt.alloc(), "[true*]<true>true").expect(&rt, "a formula");
     let mut dice = Dice::new(11);
     let mut found = 0u32;
     for round in 0..200u32 {
@@ -253,7 +254,7 @@ const DRAWING: &str =
 
 #[test]
 fn drawings_are_to_the_letter(rt: HostRuntime) {
-    let system = system_of(rt.alloc(), DRAWN).expect(&rt, "a system");
+    let system = system_read(rt.alloc(), DRAWN).expect(&rt, "a system");
     for step in [1, 7, 8192] {
         let mut out = Narrow::new(rt.alloc(), step, AMPLE);
         assert!(rt; write_drawing(&system, system.all(), &mut out).is_ok());
@@ -272,7 +273,7 @@ fn is_cut(alloc: Global, system: &Lts, room: usize, at_end: AtEnd) -> bool {
 
 #[test]
 fn a_failed_write_leaves_a_beginning_of_the_drawing(rt: HostRuntime) {
-    let system = system_of(rt.alloc(), DRAWN).expect(&rt, "a system");
+    let system = system_read(rt.alloc(), DRAWN).expect(&rt, "a system");
     for room in 0..DRAWING.len() {
         assert!(rt; is_cut(rt.alloc(), &system, room, AtEnd::Fails), "{room}");
         assert!(rt;
@@ -287,7 +288,7 @@ fn a_failed_write_leaves_a_beginning_of_the_drawing(rt: HostRuntime) {
 // The diamond's `a` and the box's `!a`, by the ring's labels `a` and `b`; the other nodes have no labels.
 #[test]
 fn nodes_know_the_labels_that_pass(rt: HostRuntime) {
-    let system = system_of(rt.alloc(), RING).expect(&rt, "a system");
+    let system = system_read(rt.alloc(), RING).expect(&rt, "a system");
     let form = form_of(rt.alloc(), "<a>[!a]false").expect(&rt, "a normal form");
     let sets = label_sets(rt.alloc(), &system, &form).expect(&rt, "memory");
     assert!(rt; sets.len() == 3);

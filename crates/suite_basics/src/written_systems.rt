@@ -3,7 +3,7 @@
 
 use crate::common::same;
 use lts::{Lts, WriteFault, put, put_number, write_aut};
-use samples::texts::{RING, system_of};
+use samples::texts::{RING, system_read};
 use samples::writers::{AMPLE, AtEnd, Narrow};
 use std::alloc::Global;
 use std::process::Abort;
@@ -36,7 +36,7 @@ const TEXTS: [(&str, &str); 7] = [
 
 // A writer that never fails is given the whole text, and no fault is told.
 fn writes(rt: &(impl Abort + AllocGlobal), text: &str, wanted: &str) {
-    let lts = system_of(rt.alloc(), text).expect(rt, "a system");
+    let lts = system_read(rt.alloc(), text).expect(rt, "a system");
     for step in [1, 3, 8192] {
         let mut out = Narrow::new(rt.alloc(), step, AMPLE);
         assert!(rt; write_aut(&lts, &mut out).is_ok());
@@ -86,7 +86,7 @@ fn is_cut(alloc: Global, lts: &Lts, step: usize, room: usize, at_end: AtEnd) -> 
 
 #[test]
 fn a_failed_write_leaves_a_beginning(rt: HostRuntime) {
-    let lts = system_of(rt.alloc(), RING).expect(&rt, "a system");
+    let lts = system_read(rt.alloc(), RING).expect(&rt, "a system");
     for room in 0..RING.len() {
         for step in [4, 8192] {
             assert!(rt;
@@ -116,7 +116,7 @@ fn a_failed_write_has_a_code(rt: HostRuntime) {
 
 #[test]
 fn an_interrupted_write_is_tried_again(rt: HostRuntime) {
-    let lts = system_of(rt.alloc(), RING).expect(&rt, "a system");
+    let lts = system_read(rt.alloc(), RING).expect(&rt, "a system");
     let mut out = Narrow::new(rt.alloc(), 4, AMPLE);
     out.interrupts = true;
     assert!(rt; write_aut(&lts, &mut out).is_ok());

@@ -4,16 +4,16 @@ use crate::common::same;
 use commands::normal_text::{normal_asked, normal_text};
 use commands::solve_text::solve_text;
 use commands::verify_text::{verify_both_text, verify_text};
-use fixtures::answers::shown;
+use fixtures::answers::answer_text;
 use fixtures::texts::{
     APART, EVEN_OF_APART, EVEN_OF_OFTEN_A, EVEN_OF_STEP, ODD_OF_APART, ODD_OF_OFTEN_A, ODD_OF_STEP,
     OFTEN_A, STEP,
 };
-use normal::priorities::Priorities;
+use forms::priorities::Priorities;
 use requests::error::MuError;
 use requests::request::{BoardKind, Normalize, Options};
 use samples::readers::Slow;
-use samples::texts::repeated;
+use samples::texts::repeated_text;
 use samples::writers::{AMPLE, AtEnd, Narrow};
 use std::alloc::{AllocError, Global};
 use std::io::{Read, Write};
@@ -85,7 +85,7 @@ fn tells_with<H: Abort + Threads + Wait + AllocGlobal + Clone + Copy + Drop + Se
 ) {
     let (text, answer) = wanted;
     let mut out = Narrow::new(rt.alloc(), 7, AMPLE);
-    let found = shown(rt.alloc(), &run(rt, asked, options, &mut out)).expect(rt, "memory");
+    let found = answer_text(rt.alloc(), &run(rt, asked, options, &mut out)).expect(rt, "memory");
     same(rt, text, found.as_str(), answer);
     assert!(rt; out.taken.as_slice() == text.as_bytes(), "{text}");
 }
@@ -211,12 +211,12 @@ fn normal_forms_by_either_rule(rt: HostRuntime) {
         begins(&rt, formula, Priorities::Nested, nested);
         begins(&rt, formula, Priorities::Dependent, dependent);
     }
-    let binders = repeated(rt.alloc(), "", "nu X. mu X. ", 16, "true").expect(&rt, "memory");
+    let binders = repeated_text(rt.alloc(), "", "nu X. mu X. ", 16, "true").expect(&rt, "memory");
     let line = "nodes 33 priority 1 depth 32\n";
     begins(&rt, binders.as_str(), Priorities::Dependent, line);
     let nested = Asked::Normal(binders.as_str(), Priorities::Nested);
     tells(&rt, &nested, "", "N2");
-    let large = repeated(rt.alloc(), "<c><c><c><c><", "(a+b).", 9, "(a+b)>true").expect(
+    let large = repeated_text(rt.alloc(), "<c><c><c><c><", "(a+b).", 9, "(a+b)>true").expect(
         &rt, "memory",
     );
     tells(
@@ -418,7 +418,7 @@ fn is_unread<H: Abort + Threads + Wait + AllocGlobal + Clone + Copy + Drop + Sen
 }
 
 fn is_shown(alloc: Global, answer: &Result<bool, MuError>, wanted: &str) -> bool {
-    match shown(alloc, answer) {
+    match answer_text(alloc, answer) {
         Ok(text) => text.as_str() == wanted,
         Err(AllocError) => false,
     }

@@ -2,7 +2,7 @@
 
 use crate::common::same;
 use commands::replay_text::{replay_asked, replay_text};
-use fixtures::answers::shown;
+use fixtures::answers::answer_text;
 use requests::error::MuError;
 use requests::request::Replay;
 use samples::readers::Slow;
@@ -47,7 +47,7 @@ fn tells<H: Abort + Threads + Sync + AllocGlobal>(
     answer: &str,
 ) {
     let mut out = Narrow::new(rt.alloc(), 7, AMPLE);
-    let found = shown(rt.alloc(), &run(rt, asked, &mut out)).expect(rt, "memory");
+    let found = answer_text(rt.alloc(), &run(rt, asked, &mut out)).expect(rt, "memory");
     same(rt, asked.1, found.as_str(), answer);
     assert!(rt; out.taken.as_slice() == text.as_bytes(), "{text}");
 }
@@ -134,7 +134,9 @@ fn replays_pass_refusals_on(rt: HostRuntime) {
     same(
         &rt,
         "no system",
-        shown(rt.alloc(), &answer).expect(&rt, "memory").as_str(),
+        answer_text(rt.alloc(), &answer)
+            .expect(&rt, "memory")
+            .as_str(),
         "A1 at line 1",
     );
 }

@@ -4,8 +4,8 @@
 use commands::solve_text::solve_asked;
 use commands::verify_text::verify_both_text;
 use fixtures::texts::{EVEN_OF_STEP, ODD_OF_STEP, STEP};
+use forms::priorities::Priorities;
 use measures::observer::Silent;
-use normal::priorities::Priorities;
 use requests::error::MuError;
 use requests::request::{BoardKind, Options, Solve};
 use samples::writers::{AMPLE, AtEnd, Narrow};

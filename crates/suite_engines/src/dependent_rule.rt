@@ -5,8 +5,8 @@ use engines::engine::{check, check_one};
 use engines::error::MuError;
 use engines::request::{BoardKind, Options};
 use engines::writers::EvidenceWriters;
-use normal::priorities::Priorities;
-use samples::texts::{RING, repeated, ring};
+use forms::priorities::Priorities;
+use samples::texts::{RING, repeated_text, ring};
 use std::alloc::Global;
 use std::process::Abort;
 use std::sync::Wait;
@@ -79,14 +79,14 @@ const BINDERS: usize = 32;
 // outermost would have 32, which is too great.
 #[test]
 fn fixpoints_without_variables_have_priorities_0_and_1(rt: HostRuntime) {
-    let formula = repeated(rt.alloc(), "", "nu X. mu X. ", BINDERS / 2, "true").expect(
+    let formula = repeated_text(rt.alloc(), "", "nu X. mu X. ", BINDERS / 2, "true").expect(
         &rt, "memory",
     );
-    let open = repeated(rt.alloc(), "", "(nu X. (mu X. ", BINDERS / 2, "true").expect(
+    let open = repeated_text(rt.alloc(), "", "(nu X. (mu X. ", BINDERS / 2, "true").expect(
         &rt, "memory",
     );
     let head = "system 2 states 2 transitions initial 0\nformula ";
-    let closed = repeated(rt.alloc(), open.as_str(), ")", BINDERS, "\n").expect(&rt, "memory");
+    let closed = repeated_text(rt.alloc(), open.as_str(), ")", BINDERS, "\n").expect(&rt, "memory");
     let rest = "yes 2 of 2\ninitial yes\n0 yes\n1 yes\n";
     let report = format!(in rt.alloc(); "{head}{closed}{rest}").expect(&rt, "memory");
     let game =

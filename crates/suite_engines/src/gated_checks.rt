@@ -9,8 +9,8 @@ use engines::request::{BoardKind, Options};
 use engines::writers::EvidenceWriters;
 use fixtures::meeting::Meeting;
 use fixtures::texts::{EVEN_OF_OFTEN_A, ODD_OF_OFTEN_A, OFTEN_A};
-use normal::priorities::Priorities;
-use samples::texts::{RING, repeated, ring};
+use forms::priorities::Priorities;
+use samples::texts::{RING, repeated_text, ring};
 use std::alloc::{AllocError, Global};
 use std::process::Abort;
 use std::sync::Wait;
@@ -157,7 +157,7 @@ fn two_workers_of_a_check_meet(rt: HostRuntime) {
 // 31 fixpoints in one another, each of a priority of its own. On n states there are n vertices of each odd priority from 3 to 31,
 // and one more of priority 1, the false sink: the rank of top is 15 times the factor n + 1, and once n + 2.
 fn sixteen_counts(alloc: Global) -> Result<String, AllocError> {
-    repeated(alloc, "mu X. ", "nu X. mu X. ", 15, "true")
+    repeated_text(alloc, "mu X. ", "nu X. mu X. ", 15, "true")
 }
 
 // What is shown of a refusal.

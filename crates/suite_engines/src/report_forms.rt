@@ -3,8 +3,8 @@
 use crate::unwritten::unwritten;
 use engines::engine::check_asked;
 use engines::request::{BoardKind, Check, Options, ReportForm, Wanted};
+use forms::priorities::Priorities;
 use measures::observer::Silent;
-use normal::priorities::Priorities;
 use std::alloc::Global;
 use std::process::Abort;
 use std::sync::Wait;

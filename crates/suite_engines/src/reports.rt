@@ -6,8 +6,8 @@ use engines::error::MuError;
 use engines::request::{BoardKind, Options};
 use engines::status::status;
 use engines::writers::EvidenceWriters;
-use normal::priorities::Priorities;
-use samples::texts::{RING, repeated, ring};
+use forms::priorities::Priorities;
+use samples::texts::{RING, repeated_text, ring};
 use samples::writers::Narrow;
 use std::alloc::{AllocError, Global};
 use std::io;
@@ -318,7 +318,7 @@ fn passes_refusals_on(rt: HostRuntime) {
     for (system, formula, refusal) in &REFUSED {
         refuses(&rt, (system, formula), refusal, &ENGINES);
     }
-    let negations = repeated(rt.alloc(), "", "!", 257, "true").expect(&rt, "memory");
+    let negations = repeated_text(rt.alloc(), "", "!", 257, "true").expect(&rt, "memory");
     refuses(
         &rt,
         (RING, negations.as_str()),
@@ -339,7 +339,7 @@ const TOO_LARGE: [(&str, Parts, &str); 3] = [
 
 fn formula_of(alloc: Global, parts: &Parts) -> Result<String, AllocError> {
     let (head, part, times, tail) = *parts;
-    repeated(alloc, head, part, times, tail)
+    repeated_text(alloc, head, part, times, tail)
 }
 
 #[test]
@@ -382,7 +382,7 @@ fn written_as(
     end: &str,
 ) -> Result<String, AllocError> {
     let open = formula_of(alloc, parts)?;
-    repeated(alloc, open.as_str(), ")", closing, end)
+    repeated_text(alloc, open.as_str(), ")", closing, end)
 }
 
 fn reports_parts<R: Abort + AllocGlobal + Threads + Wait + Clone + Copy + Drop + Send + Sync>(

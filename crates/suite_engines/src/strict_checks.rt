@@ -4,9 +4,9 @@ use crate::unwritten::{Written, unwritten};
 use engines::engine::check_asked;
 use engines::error::MuError;
 use engines::request::{BoardKind, Check, Options, ReportForm, Wanted};
+use forms::priorities::Priorities;
 use measures::observer::Silent;
-use normal::priorities::Priorities;
-use samples::texts::repeated;
+use samples::texts::repeated_text;
 use std::alloc::{AllocError, Global};
 use std::sync::Wait;
 use std::thread::Threads;
@@ -111,7 +111,7 @@ fn a_strict_check_refuses_the_first_word_on_no_transition(rt: HostRuntime) {
 
 #[test]
 fn a_word_is_refused_before_the_normal_form(rt: HostRuntime) {
-    let formula = repeated(rt.alloc(), "<", "(a + d) . ", 13, "a>true").expect(&rt, "memory");
+    let formula = repeated_text(rt.alloc(), "<", "(a + d) . ", 13, "a>true").expect(&rt, "memory");
     let found = outcome(&rt, rt.alloc(), &check(false, false), formula.as_str());
     assert!(rt; found.expect(&rt, "memory").as_str() == "N1");
     let found = outcome(&rt, rt.alloc(), &check(false, true), formula.as_str());

@@ -5,9 +5,9 @@ use crate::common::same;
 use engines::error::MuError;
 use engines::reasons::tell_why;
 use engines::request::{BoardKind, Options, Why};
-use fixtures::answers::shown;
+use fixtures::answers::answer_text;
+use forms::priorities::Priorities;
 use measures::observer::Silent;
-use normal::priorities::Priorities;
 use samples::texts::{RING, ring};
 use samples::writers::{AMPLE, AtEnd, Narrow};
 use std::process::Abort;
@@ -264,7 +264,7 @@ fn strictly_a_word_on_no_transition_is_refused(rt: HostRuntime) {
     for (formula, wanted) in &STRICT {
         let mut out = Narrow::new(rt.alloc(), 7, AMPLE);
         let answer = told_by(&rt, &why(true), RING, formula, &mut out);
-        let found = shown(rt.alloc(), &answer).expect(&rt, "memory");
+        let found = answer_text(rt.alloc(), &answer).expect(&rt, "memory");
         same(&rt, formula, found.as_str(), wanted);
         assert!(rt; out.taken.is_empty() == answer.is_err(), "{formula}");
     }

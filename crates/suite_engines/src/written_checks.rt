@@ -8,7 +8,7 @@ use fixtures::texts::{
     APART, EVEN_OF_APART, EVEN_OF_OFTEN_A, EVEN_OF_STEP, ODD_OF_APART, ODD_OF_OFTEN_A, ODD_OF_STEP,
     OFTEN_A, STAY, STEP,
 };
-use normal::priorities::Priorities;
+use forms::priorities::Priorities;
 use samples::texts::RING;
 use samples::writers::{AMPLE, Narrow};
 use std::alloc::Global;

@@ -10,7 +10,7 @@ use measures::claim::Claim;
 use measures::measure::Measure;
 use measures::settle::settle;
 use measures::table::{PlainTable, opening};
-use samples::games::{Row, game_of};
+use samples::games::{Row, game_of_rows};
 use std::process::Abort;
 
 // Odd goes round between the first two vertices, and need not go on to the third.
@@ -77,7 +77,7 @@ fn stays(rt: &impl Abort, game: &Game, table: &mut PlainTable)
 
 #[test]
 fn jumps_to_top(rt: HostRuntime) {
-    let game = game_of(&rt, &ROUND).expect(&rt, "a game");
+    let game = game_of_rows(&rt, &ROUND).expect(&rt, "a game");
     let mut table = opening(rt.alloc(), &game).expect(&rt, "memory");
     let mut claim = Claim::new(rt.alloc(), &game).expect(&rt, "memory");
     jumps(&rt, &game, &mut table, &mut claim);

@@ -11,7 +11,7 @@ use normal::make::normal;
 use rankings::sheet::Sheet;
 use rankings::winners::root_winners;
 use samples::dice::Dice;
-use samples::texts::{formula_of, system_of};
+use samples::texts::{parsed_formula, system_read};
 use std::alloc::{AllocError, Global};
 use std::process::Abort;
 use std::thread::Threads;
@@ -102,14 +102,14 @@ fn marks_by(
 fn threads_find_the_same_winners(rt: HostRuntime) {
     let mut dice = Dice::new(44);
     let text = large_system(rt.alloc(), &mut dice).expect(&rt, "memory");
-    let lts = system_of(rt.alloc(), &text).expect(&rt, "a system");
+    let lts = system_read(rt.alloc(), &text).expect(&rt, "a system");
     for text in [
         "nu X. (<true>true && [true]X)",
         "mu X. (<true>true && [!a]X)",
         "nu X. mu Y. ([a]X && [!a]Y)",
         "nu X. mu Y. nu Z. ((<a>X || [b]Y) && [true]Z)",
     ] {
-        let formula = formula_of(rt.alloc(), text).expect(&rt, "a formula");
+        let formula = parsed_formula(rt.alloc(), text).expect(&rt, "a formula");
         let marks = plain_states(rt.alloc(), &lts, &formula).expect(&rt, "memory");
         for workers in [1, 2, 3, 7] {
             let found = marks_by(&rt, &lts, &formula, workers);

@@ -7,7 +7,7 @@ use game::graph::{Game, GameBuilder};
 use game::player::Player;
 use gauge::Gauge;
 use samples::dice::{Dice, roll_game};
-use samples::games::push;
+use samples::games::push_row;
 use std::alloc::Global;
 use std::process::Abort;
 use std::thread::Threads;
@@ -229,7 +229,7 @@ impl Rows {
         let mut row = Vec::from_slice(self.alloc, successors).expect(rt, "memory");
         row.sort_unstable();
         row.dedup();
-        push(&mut self.builder, owner, priority, row.as_slice()).expect(rt, "memory");
+        push_row(&mut self.builder, owner, priority, row.as_slice()).expect(rt, "memory");
     }
 
     fn finish(self, rt: &impl Abort) -> Game {

@@ -6,6 +6,8 @@ ghost use Rattle.std.specs.Prelude.{◌≡◌, ◌<◌, ◌≤◌, IfOk};
 use crate::random_games::{is_same, lifted_alone};
 use calculus::closed::Closed;
 use claims::claimed::Claims;
+use forms::form::Normal;
+use forms::limits::GREATEST_PRIORITY;
 use game::build::build;
 use game::dual::{dual, greatest_priority};
 use game::graph::Game;
@@ -18,11 +20,9 @@ use measures::progs::is_measure;
 use measures::proposal::Proposal;
 use measures::settle::{is_settled, settle};
 use measures::table::opening;
-use normal::form::Normal;
-use normal::limits::GREATEST_PRIORITY;
 use normal::make::normal;
 use samples::dice::Dice;
-use samples::texts::{formula_of, system_of};
+use samples::texts::{parsed_formula, system_read};
 use std::alloc::{AllocError, Global};
 use std::process::Abort;
 use std::thread::Threads;
@@ -57,7 +57,7 @@ const CLOSED: [&str; 6] = [
 ];
 
 // What stands before an operand, and how many parentheses it opens. Binders stand first, an action and a junction last.
-pub(crate) const HEADS: [&str; 5] = ["[a](", "<true>(", "[!a](", "<b>(", "[a|b]("];
+pub(crate) static HEADS: [&str; 5] = ["[a](", "<true>(", "[!a](", "<b>(", "[a|b]("];
 
 // A system with so many states: some have no steps, some several to the same state, some one to themselves.
 pub(crate) fn roll_system(alloc: Global, dice: &mut Dice, states: u32) -> Result<String, AllocError>
@@ -187,8 +187,8 @@ pub(crate) fn question_of(
     system: &str,
     text: &str,
 ) -> Question {
-    let lts = system_of(rt.alloc(), system).expect(rt, "a system");
-    let formula = formula_of(rt.alloc(), text).expect(rt, "a formula");
+    let lts = system_read(rt.alloc(), system).expect(rt, "a system");
+    let formula = parsed_formula(rt.alloc(), text).expect(rt, "a formula");
     let form = normal(rt.alloc(), &formula).expect(rt, "a normal form");
     let game = build(rt, rt.alloc(), &lts, &form).expect(rt, "a game");
     Question {

@@ -9,7 +9,7 @@ use game::graph::{Game, GameBuilder};
 use game::player::Player;
 use measures::settle::{even_wins, solve_one};
 use measures::table::Settled;
-use samples::games::push;
+use samples::games::push_row;
 use std::process::Abort;
 
 // The vertices that Even wins.
@@ -90,7 +90,7 @@ fn ladder(rt: &(impl Abort + AllocGlobal), rungs: u32) -> Option<Game>
     for v in 0..vertices {
         let (near, far) = ((v + 1) % vertices, (v + 2) % vertices);
         let next = [near.min(far), near.max(far)];
-        push(&mut builder, owner_of(v), (v % 2) as u8, &next).expect(rt, "memory");
+        push_row(&mut builder, owner_of(v), (v % 2) as u8, &next).expect(rt, "memory");
     }
     builder.finish()
 }
@@ -118,7 +118,7 @@ fn clique(rt: &(impl Abort + AllocGlobal), vertices: u32) -> Option<Game>
                 others.push(t).expect(rt, "memory");
             }
         }
-        push(&mut builder, owner_of(v), v as u8, others.as_slice()).expect(rt, "memory");
+        push_row(&mut builder, owner_of(v), v as u8, others.as_slice()).expect(rt, "memory");
     }
     builder.finish()
 }
@@ -150,23 +150,23 @@ fn climb(rt: &(impl Abort + AllocGlobal), rows: u8, width: u32, winner: Player) 
         Player::Odd => 2 * rows + 1,
     };
     let mut builder = GameBuilder::new(rt.alloc());
-    push(&mut builder, Player::Odd, end, &[0]).expect(rt, "memory");
+    push_row(&mut builder, Player::Odd, end, &[0]).expect(rt, "memory");
     let mut last: u32 = 0;
     for row in (0..rows).rev() {
         for _ in 0..width {
-            push(&mut builder, owner_of(last), 2 * row + 1, &[last]).expect(rt, "memory");
+            push_row(&mut builder, owner_of(last), 2 * row + 1, &[last]).expect(rt, "memory");
             last = last.wrapping_add(1);
         }
     }
     let round = last.wrapping_add(1);
-    push(
+    push_row(
         &mut builder,
         Player::Even,
         0,
         &[last, round.wrapping_add(1)],
     )
     .expect(rt, "memory");
-    push(&mut builder, Player::Odd, 1, &[round]).expect(rt, "memory");
+    push_row(&mut builder, Player::Odd, 1, &[round]).expect(rt, "memory");
     builder.finish()
 }
 

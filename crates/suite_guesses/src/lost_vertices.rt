@@ -10,8 +10,8 @@ use game::predecessors::Predecessors;
 use measures::settle::{even_wins, solve_one};
 use measures::table::Settled;
 use samples::dice::{Dice, roll_game};
-use samples::games::{Row, game_of};
-use samples::texts::{form_of, system_of};
+use samples::games::{Row, game_of_rows};
+use samples::texts::{form_of, system_read};
 use search::effort::Effort;
 use search::lost::Lost;
 use std::alloc::{AllocError, Global};
@@ -103,7 +103,7 @@ fn are_lost(lost: &Lost, winners: &str) -> bool {
 #[test]
 fn small_games_are_searched(rt: HostRuntime) {
     for (rows, winners) in &GAMES {
-        let game = game_of(&rt, rows).expect(&rt, "a game");
+        let game = game_of_rows(&rt, rows).expect(&rt, "a game");
         let predecessors = Predecessors::of(rt.alloc(), &game).expect(&rt, "memory");
         let lost = Lost::of(rt.alloc(), &game, &predecessors, Effort::Usual).expect(&rt, "memory");
         assert!(rt; are_lost(&lost, winners), "{winners}");
@@ -138,7 +138,7 @@ fn branching(alloc: Global) -> Result<String, AllocError> {
 
 fn branching_game(rt: &(impl Abort + AllocGlobal + Threads + Sync)) -> Game {
     let text = branching(rt.alloc()).expect(rt, "memory");
-    let lts = system_of(rt.alloc(), text.as_str()).expect(rt, "a system");
+    let lts = system_read(rt.alloc(), text.as_str()).expect(rt, "a system");
     let form = form_of(rt.alloc(), "mu X. (<c>true || <true>X)").expect(rt, "a normal form");
     build(rt, rt.alloc(), &lts, &form).expect(rt, "memory")
 }

@@ -1,10 +1,10 @@
 // Rankings of arenas, made by hand: which are good, and what they tell.
 
 use columns::column::{Column, Columns, Counted, Halves};
-use normal::form::Normal;
+use forms::form::Normal;
 use rankings::sheet::Sheet;
 use rankings::winners::root_winners;
-use samples::texts::{form_of, system_of};
+use samples::texts::{form_of, system_read};
 use std::alloc::{AllocError, Global};
 use std::thread::Threads;
 
@@ -54,7 +54,7 @@ fn told_by(
     sheet: &Sheet,
 ) -> Option<[bool; 3]> {
     let alloc = rt.alloc();
-    let system = system_of(alloc, SYSTEM).ok()?;
+    let system = system_read(alloc, SYSTEM).ok()?;
     let form = form_of(alloc, formula)?;
     let marks = root_winners(rt, alloc, &system, &form, sheet, 1)?;
     match marks.as_slice() {

@@ -10,7 +10,7 @@ use game::player::Player;
 use measures::settle::solve_one;
 use measures::table::{Settled, opening};
 use samples::dice::{Dice, roll_game};
-use samples::games::push;
+use samples::games::push_row;
 use std::alloc::{AllocError, Global};
 use std::array;
 use std::marker::Brand;
@@ -106,17 +106,17 @@ fn push_climbing(
         } else {
             2
         };
-        return push(builder, Player::Odd, priority, &[next]);
+        return push_row(builder, Player::Odd, priority, &[next]);
     }
     let place = v % RING;
     let next = if place + 1 < RING { v + 1 } else { v - place };
     let priority = if v / RING % apart == 0 { 1 } else { 0 };
     if place == 0 {
-        push(builder, Player::Even, priority, &[next, way])
+        push_row(builder, Player::Even, priority, &[next, way])
     } else if place == 10 && v < way - RING {
-        push(builder, Player::Odd, 0, &[next, v + RING])
+        push_row(builder, Player::Odd, 0, &[next, v + RING])
     } else {
-        push(builder, Player::Odd, 0, &[next])
+        push_row(builder, Player::Odd, 0, &[next])
     }
 }
 
@@ -163,9 +163,9 @@ fn push_branch(builder: &mut GameBuilder, vertices: u32, v: u32) -> Result<(), A
 {
     let last = vertices - 1;
     if v == last {
-        push(builder, Player::Even, 1, &[v])
+        push_row(builder, Player::Even, 1, &[v])
     } else {
-        push(builder, Player::Even, 0, &[last - (last - v - 1) / 2])
+        push_row(builder, Player::Even, 0, &[last - (last - v - 1) / 2])
     }
 }
 

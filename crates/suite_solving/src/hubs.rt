@@ -6,7 +6,7 @@ ghost use Rattle.std.specs.Prelude.{◌≡◌, ◌+◌, ◌<◌, ◌≤◌};
 use crate::climbing_workers::{Turns, lifted_over_words};
 use game::graph::{Game, GameBuilder};
 use game::player::Player;
-use samples::games::push;
+use samples::games::push_row;
 use std::alloc::{AllocError, Global};
 use std::fs;
 use std::process::Abort;
@@ -43,15 +43,15 @@ impl Hub {
         let trap = self.trap();
         let hub = trap + 1;
         if v < COUNTED {
-            push(builder, Player::Even, 1, &[hub])
+            push_row(builder, Player::Even, 1, &[hub])
         } else if v < self.leading {
-            push(builder, Player::Even, 0, &[hub])
+            push_row(builder, Player::Even, 0, &[hub])
         } else if v < trap {
-            push(builder, Player::Even, 0, &[v])
+            push_row(builder, Player::Even, 0, &[v])
         } else if v == trap {
-            push(builder, Player::Even, 1, &[trap])
+            push_row(builder, Player::Even, 1, &[trap])
         } else {
-            push(builder, Player::Even, 1, &[trap, hub])
+            push_row(builder, Player::Even, 1, &[trap, hub])
         }
     }
 

@@ -7,7 +7,7 @@ use gauge::Gauge;
 use measures::guess::NoGuess;
 use measures::observer::{Observer, Stage};
 use measures::settle::solve_one_seen;
-use samples::texts::{form_of, ring, system_of};
+use samples::texts::{form_of, ring, system_read};
 use std::process::Abort;
 use std::sync::atomic::{AtomicU64, Ordering};
 use std::sync::{Arc, Wait};
@@ -58,7 +58,7 @@ impl Observer for Tally {
 /// The game of a formula with seven nodes at a ring of 2,500 states: 17,502 vertices.
 fn game_of_the_ring(rt: &(impl Abort + AllocGlobal + Threads + Sync)) -> Game {
     let text = ring(rt.alloc(), 2500).expect(rt, "memory");
-    let system = system_of(rt.alloc(), text.as_str()).expect(rt, "a system");
+    let system = system_read(rt.alloc(), text.as_str()).expect(rt, "a system");
     let form = form_of(rt.alloc(), "nu X. mu Y. (<a>X || <b>Y)").expect(rt, "a normal form");
     build(rt, rt.alloc(), &system, &form).expect(rt, "a game")
 }

@@ -3,7 +3,7 @@
 ghost use Rattle.std.specs.Prelude.{◌≡◌, ◌<◌, ◌≤◌, length};
 ghost use Rattle.tables.specs.Seats.{board_game};
 
-use crate::progress_measures::{LEAST, is_as_wanted, nested};
+use crate::progress_measures::{LEAST, is_as_wanted, nested_binders_game};
 use game::graph::{Game, GameBuilder};
 use game::player::Player;
 use measures::measure::Measure;
@@ -11,7 +11,7 @@ use measures::progs::is_measure;
 use measures::rank::{of_rank, rank, top_rank};
 use measures::settle::settle;
 use measures::table::opening;
-use samples::games::{Row, push, shared_game_of};
+use samples::games::{Row, push_row, shared_game_of};
 use std::process::Abort;
 use std::sync::Arc;
 use std::thread::map_indices;
@@ -40,7 +40,7 @@ fn loops(rt: &(impl Abort + AllocGlobal), ones: u32) -> Game {
     for half in 0..16u8 {
         let times = if half == 0 { ones } else { 15 };
         for _ in 0..times {
-            push(&mut builder, Player::Even, 2 * half + 1, &[v]).expect(rt, "memory");
+            push_row(&mut builder, Player::Even, 2 * half + 1, &[v]).expect(rt, "memory");
             v = v.wrapping_add(1);
         }
     }
@@ -61,7 +61,7 @@ fn has_rank(rt: &impl Abort, game: &Game, counts: &[u32; 2], wanted: u64) {
 
 #[test]
 fn the_rank_is_the_number_of_the_lesser_measures(rt: HostRuntime) {
-    let game = nested(&rt);
+    let game = nested_binders_game(&rt);
     has_rank(&rt, &game, &[1, 1], 5);
     has_rank(&rt, &game, &[2, 0], 8);
     has_rank(&rt, &game, &[0, 0], 0);
@@ -202,7 +202,7 @@ fn settles_least(board: &PackedBoard) -> bool
 
 #[test]
 fn two_seats_settle_at_once(rt: HostRuntime) {
-    let game = Arc::new(rt.alloc(), nested(&rt)).expect(&rt, "memory");
+    let game = Arc::new(rt.alloc(), nested_binders_game(&rt)).expect(&rt, "memory");
     assert!(&rt; 18 <= game.vertices());
     let Ok(board) = PackedBoard::new(rt.alloc(), game, 2) else {
         panic!(&rt; "no board")

@@ -9,7 +9,7 @@ use measures::measure::Measure;
 use measures::progs::{is_measure, lift, prog};
 use measures::settle::{even_wins, is_settled, settle, solve_one};
 use measures::table::{PlainTable, opening};
-use samples::games::{Row, game_of};
+use samples::games::{Row, game_of_rows};
 use std::process::Abort;
 
 // The game of `mu Z. nu Y. mu X. (<a>Z || <b>Y)` on the system whose first state leads by a to the second, which leads by b
@@ -66,8 +66,8 @@ const PROGS: [(u32, [u32; 2], Option<[u32; 2]>); 5] = [
     (5, [1, 3], Some([1, 3])),
 ];
 
-pub fn nested(rt: &(impl Abort + AllocGlobal)) -> Game {
-    game_of(rt, &NESTED).expect(rt, "a game")
+pub fn nested_binders_game(rt: &(impl Abort + AllocGlobal)) -> Game {
+    game_of_rows(rt, &NESTED).expect(rt, "a game")
 }
 
 pub fn is_as_wanted(m: &Measure, want: &Option<[u32; 2]>) -> bool {
@@ -79,7 +79,7 @@ pub fn is_as_wanted(m: &Measure, want: &Option<[u32; 2]>) -> bool {
 
 #[test]
 fn finds_the_least_measures(rt: HostRuntime) {
-    let game = nested(&rt);
+    let game = nested_binders_game(&rt);
     let settled = solve_one(rt.alloc(), &game).expect(&rt, "memory");
     for (v, want) in (0..18).zip(LEAST.iter()) {
         assert!(rt; v < game.vertices());
@@ -89,7 +89,7 @@ fn finds_the_least_measures(rt: HostRuntime) {
 
 #[test]
 fn settles_the_opening_table(rt: HostRuntime) {
-    let game = nested(&rt);
+    let game = nested_binders_game(&rt);
     let mut table = opening(rt.alloc(), &game).expect(&rt, "memory");
     assert!(rt; !is_settled(&game, &table));
     settle(&game, &mut table);
@@ -108,7 +108,7 @@ fn rises(rt: &impl Abort, table: &mut PlainTable, source: &PlainTable)
 
 #[test]
 fn raises_one_vertex(rt: HostRuntime) {
-    let game = nested(&rt);
+    let game = nested_binders_game(&rt);
     let mut source = opening(rt.alloc(), &game).expect(&rt, "memory");
     settle(&game, &mut source);
     assert!(rt; 4 < game.vertices());
@@ -121,7 +121,7 @@ fn raises_one_vertex(rt: HostRuntime) {
 
 #[test]
 fn asks_for_the_least(rt: HostRuntime) {
-    let game = nested(&rt);
+    let game = nested_binders_game(&rt);
     for (v, counts, want) in &PROGS {
         let m = Measure::of_counts(counts);
         assert!(rt; *v < game.vertices());
@@ -134,7 +134,7 @@ fn asks_for_the_least(rt: HostRuntime) {
 
 // Whether Even wins each of two vertices between which the play goes round.
 fn wins(rt: &(impl Abort + AllocGlobal), priority: u8) -> (bool, bool) {
-    let game = game_of(
+    let game = game_of_rows(
         rt,
         &[(Player::Even, 0, &[1]), (Player::Odd, priority, &[0])],
     )

@@ -11,7 +11,7 @@ use measures::measure::Measure;
 use measures::settle::solve_one;
 use measures::table::Settled;
 use samples::dice::{Dice, roll_game};
-use samples::games::game_of;
+use samples::games::game_of_rows;
 use std::alloc::{AllocError, Global};
 use std::process::Abort;
 
@@ -165,8 +165,8 @@ fn random_events_agree_with_their_outcomes(rt: HostRuntime) {
         .expect(&rt, "memory")
         .expect(&rt, "a game");
     let games = [
-        game_of(&rt, &STEP_ROWS).expect(&rt, "a game"),
-        game_of(&rt, &TWO_STEPS).expect(&rt, "a game"),
+        game_of_rows(&rt, &STEP_ROWS).expect(&rt, "a game"),
+        game_of_rows(&rt, &TWO_STEPS).expect(&rt, "a game"),
         rolled,
     ];
     for game in &games {

@@ -7,7 +7,7 @@ use liftcore::event::{Event, Outcome};
 use liftcore::machine::{Core, run};
 use liftcore::schedule::{read_schedule, read_schedule_from};
 use liftcore::writer::write_replay;
-use samples::games::{Row, game_of};
+use samples::games::{Row, game_of_rows};
 use samples::readers::{Halting, Slow};
 use std::process::Abort;
 use text::ReadFault;
@@ -65,7 +65,7 @@ fn after(rt: &(impl Abort + AllocGlobal), first: &str, rest: &str) -> String {
 
 #[test]
 fn one_step_is_replayed(rt: HostRuntime) {
-    let game = game_of(&rt, &STEP_ROWS).expect(&rt, "a game");
+    let game = game_of_rows(&rt, &STEP_ROWS).expect(&rt, "a game");
     let text = replayed(&rt, &game, "take 0 4\nread 0 1\nraise 0\n");
     let wanted = after(&rt, "events 3 done 3 skipped 0\n", STEP_RAISED);
     assert!(rt; text.as_str() == wanted.as_str());
@@ -76,7 +76,7 @@ fn one_step_is_replayed(rt: HostRuntime) {
 
 #[test]
 fn a_late_read_does_no_harm(rt: HostRuntime) {
-    let game = game_of(&rt, &TWO_STEPS).expect(&rt, "a game");
+    let game = game_of_rows(&rt, &TWO_STEPS).expect(&rt, "a game");
     let text = replayed(&rt, &game, LATE);
     let wanted = after(&rt, "events 13 done 13 skipped 0\n", LATE_RAISED);
     assert!(rt; text.as_str() == wanted.as_str());
@@ -112,7 +112,7 @@ const REFUSED: [(&str, &str); 20] = [
 
 #[test]
 fn faulty_schedules_are_refused(rt: HostRuntime) {
-    let game = game_of(&rt, &TWO_STEPS).expect(&rt, "a game");
+    let game = game_of_rows(&rt, &TWO_STEPS).expect(&rt, "a game");
     for (schedule, wanted) in &REFUSED {
         let text = replayed(&rt, &game, schedule);
         assert!(rt; text.as_str() == *wanted);
@@ -183,7 +183,7 @@ fn reads_of_schedules_fail_or_are_tried_again(rt: HostRuntime) {
 
 #[test]
 fn the_empty_text_is_a_schedule(rt: HostRuntime) {
-    let game = game_of(&rt, &STEP_ROWS).expect(&rt, "a game");
+    let game = game_of_rows(&rt, &STEP_ROWS).expect(&rt, "a game");
     let text = replayed(&rt, &game, "");
     let wanted =
         "events 0 done 0 skipped 0\n0 (0)\n1 top\n2 (0)\n3 (0)\n4 (0)\n5 (0)\npending 0,1,2,3,4,5\nsettled no\nquiet no\n";
@@ -238,7 +238,7 @@ const TAKEN: [(Event, Outcome); 3] = [
 
 #[test]
 fn events_that_cannot_be_done_are_skipped(rt: HostRuntime) {
-    let game = game_of(&rt, &STEP_ROWS).expect(&rt, "a game");
+    let game = game_of_rows(&rt, &STEP_ROWS).expect(&rt, "a game");
     let mut core = Core::new(rt.alloc(), &game, 1).expect(&rt, "memory");
     for event in NOT_YET {
         assert!(rt; core.step(event) == Outcome::Skipped);
@@ -251,7 +251,7 @@ fn events_that_cannot_be_done_are_skipped(rt: HostRuntime) {
 
 #[test]
 fn a_quiet_core_is_settled(rt: HostRuntime) {
-    let game = game_of(&rt, &STEP_ROWS).expect(&rt, "a game");
+    let game = game_of_rows(&rt, &STEP_ROWS).expect(&rt, "a game");
     let mut core = Core::new(rt.alloc(), &game, 1).expect(&rt, "memory");
     for vertex in 0..game.vertices() {
         for next in game.successors(vertex) {
@@ -268,7 +268,7 @@ fn a_quiet_core_is_settled(rt: HostRuntime) {
 
 #[test]
 fn a_run_is_its_events(rt: HostRuntime) {
-    let game = game_of(&rt, &STEP_ROWS).expect(&rt, "a game");
+    let game = game_of_rows(&rt, &STEP_ROWS).expect(&rt, "a game");
     let events = [
         Event::Take {
             worker: 0,

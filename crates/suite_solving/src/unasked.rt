@@ -16,9 +16,9 @@ use lts::writer::write_aut;
 use measures::settle::{is_settled, settle};
 use measures::table::{PlainTable, opening};
 use pgsolver::{read_game, write_game};
-use samples::games::{game_of, shared_arena_of};
+use samples::games::{game_of_rows, shared_arena_of};
 use samples::readers::Slow;
-use samples::texts::{RING, repeated, ring, system_of};
+use samples::texts::{RING, repeated_text, ring, system_read};
 use std::alloc::Global;
 use std::marker::Brand;
 use std::process::Abort;
@@ -27,7 +27,7 @@ use tables::shard::Shard;
 
 // A table of a game, which is settled or left as it is.
 fn of_table(rt: &(impl Abort + AllocGlobal), settles: bool) {
-    let game = game_of(rt, &TWO_STEPS).expect(rt, "a game");
+    let game = game_of_rows(rt, &TWO_STEPS).expect(rt, "a game");
     let mut table = opening(rt.alloc(), &game).expect(rt, "memory");
     if !settles {
         assert!(rt; !is_settled(&game, &table));
@@ -71,7 +71,7 @@ fn of_shard<K: GameName>(
 
 // The same of a game with its settled table.
 fn of_settled(rt: &(impl Abort + AllocGlobal), raises: bool) {
-    let game = game_of(rt, &TWO_STEPS).expect(rt, "a game");
+    let game = game_of_rows(rt, &TWO_STEPS).expect(rt, "a game");
     let mut source = opening(rt.alloc(), &game).expect(rt, "memory");
     settle(&game, &mut source);
     assert!(rt; 2 < game.vertices());
@@ -118,7 +118,7 @@ fn evidence_is_made_and_checked(rt: HostRuntime) {
 
 // A system, a game and evidence, and room for their texts, which are written or not.
 fn of_texts(rt: &(impl Abort + AllocGlobal), writes: bool) {
-    let system = system_of(rt.alloc(), RING).expect(rt, "a system");
+    let system = system_read(rt.alloc(), RING).expect(rt, "a system");
     let game = read_game(rt.alloc(), GAME.as_bytes()).expect(rt, "a game");
     let even = read_evidence(rt.alloc(), EVEN.as_bytes(), &game).expect(rt, "evidence");
     let mut out = Vec::with_capacity(rt.alloc(), 1_000).expect(rt, "memory");
@@ -153,8 +153,8 @@ const AT_ONCE: usize = 1_000_000;
 
 // A text with many blanks and one without, of which one is read, some bytes at a time.
 fn of_system(rt: &(impl Abort + AllocGlobal), has_blanks: bool, step: usize) {
-    let blanks = repeated(rt.alloc(), HEADER, " ", BLANKS, LINE).expect(rt, "memory");
-    let none = repeated(rt.alloc(), HEADER, " ", 0, LINE).expect(rt, "memory");
+    let blanks = repeated_text(rt.alloc(), HEADER, " ", BLANKS, LINE).expect(rt, "memory");
+    let none = repeated_text(rt.alloc(), HEADER, " ", 0, LINE).expect(rt, "memory");
     let text = if has_blanks { &blanks } else { &none };
     let reader = Slow {
         left: text.as_bytes(),

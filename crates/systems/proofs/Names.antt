@@ -15,7 +15,7 @@ use Rattle.std.proofs.lemmas.Cmp.{nat_list_cmp_total, nat_list_eq_equiv, upto}
 use Rattle.std.proofs.lemmas.Map.Lookups.{exact_bytes}
 use Rattle.std.proofs.lemmas.List.Sorted.{sum_by-IsPermutation, IsPermutation-map}
 use Rattle.text.specs.Text.{with_first, is_name}
-use Rattle.systems.specs.Label.{parts_of, reading_of_parts, reading, multiset, with_name, bytes_cmp, tau, texts}
+use Rattle.systems.specs.Label.{parts_of, reading_of_parts, multi_action_of, multiset, with_name, bytes_cmp, tau, texts}
 use Rattle.systems.proofs.Ordered.{IsRising, times, rising_unique, rising_from_sorted, times_is_sum, turned_test}
 
 -- a front before the first part
@@ -185,25 +185,25 @@ sorted_texts (part ∷ parts) up = λ k d low high.
 
 -- the four ways in which parts are read
 pub read_no_names : (bytes : List ℕ) (parts : List (Vec ℕ)) (r : Bool) → texts parts ≡ parts_of bytes → r ≡ list_all (λ part. is_name part.items) parts
-    → r ≡ false → nothing ≡ reading bytes
+    → r ≡ false → nothing ≡ multi_action_of bytes
 read_no_names bytes parts r cut is none = sym (ap reading_of_parts (sym cut) ∙ no_names (texts parts) (sym (all_texts is_name parts) ∙ sym is ∙ none))
 
 pub read_only_tau : (bytes : List ℕ) (parts : List (Vec ℕ)) (r t : Bool) → texts parts ≡ parts_of bytes → r ≡ list_all (λ part. is_name part.items) parts
     → r ≡ true → t ≡ list_any (λ part. bytes_eq tau part.items) parts → t ≡ true
-    → length parts ≡ 1 → the_names [] ≡ reading bytes
+    → length parts ≡ 1 → the_names [] ≡ multi_action_of bytes
 read_only_tau bytes parts r t cut is all has found one =
     sym (ap reading_of_parts (sym cut) ∙ only_tau (texts parts) (sym (all_texts is_name parts) ∙ sym is ∙ all)
     (sym (any_texts (bytes_eq tau) parts) ∙ sym has ∙ found) (length-map parts (λ (v : Vec ℕ). v.items) ∙ one))
 
 pub read_more_than_tau : (bytes : List ℕ) (parts : List (Vec ℕ)) (t : Bool) → texts parts ≡ parts_of bytes
-    → t ≡ list_any (λ part. bytes_eq tau part.items) parts → t ≡ true → (length parts ≡ 1 → ⊥) → nothing ≡ reading bytes
+    → t ≡ list_any (λ part. bytes_eq tau part.items) parts → t ≡ true → (length parts ≡ 1 → ⊥) → nothing ≡ multi_action_of bytes
 read_more_than_tau bytes parts t cut has found more =
     sym (ap reading_of_parts (sym cut) ∙ more_than_tau (texts parts) (sym (any_texts (bytes_eq tau) parts) ∙ sym has ∙ found)
     (λ e. more (sym (length-map parts (λ (v : Vec ℕ). v.items)) ∙ e)))
 
 pub read_all_names : (bytes : List ℕ) (parts sorted : List (Vec ℕ)) (r t : Bool) → texts parts ≡ parts_of bytes
     → r ≡ list_all (λ part. is_name part.items) parts → r ≡ true → t ≡ list_any (λ part. bytes_eq tau part.items) parts → t ≡ false
-    → IsPermutation parts sorted → IsSorted (λ (x y : Vec ℕ). bytes_cmp x.items y.items) sorted → the_names (texts sorted) ≡ reading bytes
+    → IsPermutation parts sorted → IsSorted (λ (x y : Vec ℕ). bytes_cmp x.items y.items) sorted → the_names (texts sorted) ≡ multi_action_of bytes
 read_all_names bytes parts sorted r t cut is all has none moved up =
     let (part, more, e) = parts_some bytes in
     let some : 0 < length (texts parts) = omega (arith, ap length cut, ap length e) in

@@ -22,7 +22,7 @@ use Rattle.progress.proofs.Plain.{opening_below, set_plain, value_set_other, val
 use Rattle.tables.specs.declared.access.Access.{Access}
 use Rattle.tables.specs.declared.access.Access.TheVariants.{Raise, Read}
 use Rattle.tables.specs.declared.packed.View.{View}
-use Rattle.tables.specs.Packed.{Nothing, view, newcomer, IsOpeningRank, IsWord, IsView, IsKept, Looked, Raised, Entered}
+use Rattle.tables.specs.Packed.{Nothing, view_after, newcomer, IsOpeningRank, IsWord, IsView, IsKept, Looked, Raised, Entered}
 
 -- what holds of each number of a list, and of a new one at its place, holds after the change
 changed : (P : ℕ → ℕ → Type 0) (xs : List ℕ) (i n : ℕ) → i < length xs → P i n → ((j : ℕ) → j < length xs → P j (slice_index xs j)) → (j : ℕ) → j < length xs
@@ -58,7 +58,7 @@ views_stay g old new w up is = record {
 -- the view of the seat that saw the word's new number
 view_steps : (g : Game) (words : List ℕ) (i n : ℕ) (w : View) (accesses : List Access) → length words ≡ length g.vertices → i < length g.vertices → slice_index words i ≤ n
     → IsView g words w
-    → IsView g (set words i n) (view w.of (set w.seen i (of_rank g n)) accesses)
+    → IsView g (set words i n) (view_after w.of (set w.seen i (of_rank g n)) accesses)
 view_steps g words i n w accesses whole lt up is = record {
   game = is.game;
   long = length-set w.seen i (of_rank g n) ∙ is.long;
@@ -80,19 +80,19 @@ view_steps g words i n w accesses whole lt up is = record {
 -- a word that rises to the rank of a measure that is below, which its seat then has seen, keeps the rule
 rises : (g : Game) (s : State Nothing View) (id i n : ℕ) (c : List (ℕ × Nothing)) (w : View) (accesses : List Access) → IsKept g s → i < length g.vertices
     → get_elem? s.views id ≡ some w
-    → slice_index s.words i ≤ n → IsWord g i n → IsKept g (stepped s i n id c (view w.of (set w.seen i (of_rank w.of n)) accesses) keeps)
+    → slice_index s.words i ≤ n → IsWord g i n → IsKept g (stepped s i n id c (view_after w.of (set w.seen i (of_rank w.of n)) accesses) keeps)
 rises g s id i n c w accesses kept lt at up is =
     let mine = kept.seen id w at in
     let there : i < length s.words = omega (arith, kept.whole) in
-    let own : IsView g (set s.words i n) (view w.of (set w.seen i (of_rank w.of n)) accesses)
-    = subst (λ (h : Game). IsView g (set s.words i n) (view w.of (set w.seen i (of_rank h n)) accesses)) (sym mine.game)
+    let own : IsView g (set s.words i n) (view_after w.of (set w.seen i (of_rank w.of n)) accesses)
+    = subst (λ (h : Game). IsView g (set s.words i n) (view_after w.of (set w.seen i (of_rank h n)) accesses)) (sym mine.game)
     (view_steps g s.words i n w accesses kept.whole lt up mine) in record {
       whole = length-set s.words i n ∙ kept.whole;
       words = λ j l. changed (IsWord g) s.words i n there is (λ k m. kept.words k (omega (arith, kept.whole))) j (omega (arith, kept.whole));
       seen = λ j u e. ⊎_elim
-          (λ (t : (j ≡ id) × (view w.of (set w.seen i (of_rank w.of n)) accesses ≡ u)). subst (IsView g (set s.words i n)) t.1 own)
+          (λ (t : (j ≡ id) × (view_after w.of (set w.seen i (of_rank w.of n)) accesses ≡ u)). subst (IsView g (set s.words i n)) t.1 own)
           (λ (t : (j ≢ id) × (get_elem? s.views j ≡ some u)). views_stay g s.words (set s.words i n) u (set_up s.words i n up) (kept.seen j u t.1))
-          (at_set s.views id j (view w.of (set w.seen i (of_rank w.of n)) accesses) u e);
+          (at_set s.views id j (view_after w.of (set w.seen i (of_rank w.of n)) accesses) u e);
     }
 
 -- the greater of two words is one
@@ -110,12 +110,12 @@ looks g slots id i me is lt s kept size at fits =
     let word : IsWord g i found = kept.words i lt in
     let mine = kept.seen id me.0 at in
     let did : Game → List Access = λ h. me.0.done ++ Read i (of_rank h found) ∷ [] in (
-      view me.0.of (set me.0.seen i (of_rank me.0.of found)) (did me.0.of),
+      view_after me.0.of (set me.0.seen i (of_rank me.0.of found)) (did me.0.of),
       keeps,
       tt,
       rises g s id i found me.1 me.0 (did me.0.of) kept lt at (le_refl found) word,
-      subst (λ (h : Game). Looked (step slots i 0 0 none) (view h me.0.seen me.0.done, me.1) found
-          (view h (set me.0.seen i (of_rank h found)) (did h), me.1)) (sym is)
+      subst (λ (h : Game). Looked (step slots i 0 0 none) (view_after h me.0.seen me.0.done, me.1) found
+          (view_after h (set me.0.seen i (of_rank h found)) (did h), me.1)) (sym is)
           (record { view = refl; later = mine.under i lt; word = word }),
     )
 
@@ -127,12 +127,12 @@ raises g slots id i k me is lt small new s kept size at fits =
     let mine = kept.seen id me.0 at in
     let did : Game → List Access = λ h. me.0.done ++ Raise i (of_rank h found) (of_rank h k) ∷ [] in
     let up : found ≤ max found k = omega arith in (
-      view me.0.of (set me.0.seen i (of_rank me.0.of (max found k))) (did me.0.of),
+      view_after me.0.of (set me.0.seen i (of_rank me.0.of (max found k))) (did me.0.of),
       keeps,
       tt,
       rises g s id i (max found k) me.1 me.0 (did me.0.of) kept lt at up (word_max g i found k word small new),
-      subst (λ (h : Game). Raised (step slots i k 0 none) (view h me.0.seen me.0.done, me.1) found
-          (view h (set me.0.seen i (of_rank h (max found k))) (did h), me.1)) (sym is)
+      subst (λ (h : Game). Raised (step slots i k 0 none) (view_after h me.0.seen me.0.done, me.1) found
+          (view_after h (set me.0.seen i (of_rank h (max found k))) (did h), me.1)) (sym is)
           (record { view = refl; later = mine.under i lt; word = word }),
     )
 
@@ -186,7 +186,7 @@ read_some (y ∷ ys) (suc i) x e = read_some ys i x e
 -- a seat that has seen one measure more, which is below
 pub seen_more : (g : Game) (was after : View) (v : ℕ) (m : Measure) (accesses : List Access) → was.of ≡ g → IsPlain (record { game = g; values = was.seen }) → v < length g.vertices
     → LiesBelow g v m
-    → after ≡ view was.of (slice_set was.seen v m) accesses → (after.of ≡ g) × IsPlain (record { game = g; values = after.seen })
+    → after ≡ view_after was.of (slice_set was.seen v m) accesses → (after.of ≡ g) × IsPlain (record { game = g; values = after.seen })
 seen_more g was after v m accesses is plain lt below e = (
   ap (λ (w : View). w.of) e ∙ is,
   subst (λ (t : List Measure). IsPlain (record { game = g; values = t })) (sym (ap (λ (w : View). w.seen) e))
@@ -195,7 +195,7 @@ seen_more g was after v m accesses is plain lt below e = (
 
 -- After a raise nothing that was seen is less, and what was brought is seen.
 pub raised_seen : (g : Game) (was after : View) (v found number : ℕ) (accesses : List Access) → was.of ≡ g → IsPlain (record { game = g; values = was.seen }) → v < length g.vertices
-    → after ≡ view was.of (slice_set was.seen v (of_rank was.of (max found number))) accesses → IsAtMost (value_at was.seen v) (of_rank was.of found)
+    → after ≡ view_after was.of (slice_set was.seen v (of_rank was.of (max found number))) accesses → IsAtMost (value_at was.seen v) (of_rank was.of found)
     → LiesUnder was.seen after.seen × IsAtMost (of_rank g number) (value_at after.seen v)
 raised_seen g was after v found number accesses is plain lt e later = (
   subst (λ (t : List Measure). LiesUnder was.seen t) (sym now)

@@ -16,12 +16,12 @@ use Rattle.tables.specs.declared.packed.View.{View}
 abbrev pub Nothing : Type 0
 Nothing = Unit {0}
 
-abbrev pub view : Game → List Measure → List Access → View
-view g table accesses = record { of = g; seen = table; done = accesses }
+abbrev pub view_after : Game → List Measure → List Access → View
+view_after g table accesses = record { of = g; seen = table; done = accesses }
 
 -- a new seat has seen the opening table, and did nothing
 abbrev pub newcomer : Game → View
-newcomer g = view g (opening g) []
+newcomer g = view_after g (opening g) []
 
 -- the rank of a measure that is below at the vertex, and at least the opening one
 pub record IsWord (g : Game) (v n : ℕ) : Type 0 where
@@ -48,13 +48,13 @@ pub record IsKept (g : Game) (s : State Nothing View) : Type 0 where
 
 -- the word that was found is no less than what was seen there, and is then seen and was read
 pub record Looked (s : Step Nothing) (me : Me Nothing View) (found : ℕ) (after : Me Nothing View) : Type 0 where
-  pub view : after.0 ≡ view me.0.of (slice_set me.0.seen s.word (of_rank me.0.of found)) (me.0.done ++ Read s.word (of_rank me.0.of found) ∷ [])
+  pub view : after.0 ≡ view_after me.0.of (slice_set me.0.seen s.word (of_rank me.0.of found)) (me.0.done ++ Read s.word (of_rank me.0.of found) ∷ [])
   pub later : IsAtMost (value_at me.0.seen s.word) (of_rank me.0.of found)
   pub word : IsWord me.0.of s.word found
 
 -- the greater of the word that was found and the one that was brought is then seen, and the first was raised to the second
 pub record Raised (s : Step Nothing) (me : Me Nothing View) (found : ℕ) (after : Me Nothing View) : Type 0 where
-  pub view : after.0 ≡ view me.0.of (slice_set me.0.seen s.word (of_rank me.0.of (max found s.first)))
+  pub view : after.0 ≡ view_after me.0.of (slice_set me.0.seen s.word (of_rank me.0.of (max found s.first)))
       (me.0.done ++ Raise s.word (of_rank me.0.of found) (of_rank me.0.of s.first) ∷ [])
   pub later : IsAtMost (value_at me.0.seen s.word) (of_rank me.0.of found)
   pub word : IsWord me.0.of s.word found

@@ -18,7 +18,7 @@ use Rattle.std.proofs.lemmas.Slice.Eq.{bytes_eq-Decides}
 use Rattle.text.specs.Text.{is_blank, is_digit, is_numeral, value_of, without_end, without_cr, with_first, pieces_of, lines}
 use Rattle.text.specs.Lines.{IfKnown}
 use Rattle.text.specs.Tokens.{capped, past_blanks, sign_at, number_at, cut_at, quoted_at, whole_number, number_before, end_at, is_other, ◌>>=◌}
-use Rattle.text.specs.Stream.{first_piece, line_of, below, next_of, is_of, is_inside, TakesAll, Shows, Runs, RunsOn, RunsTo, HasLine, Passes, PassesSign}
+use Rattle.text.specs.Stream.{first_piece, line_of, after_line, front_byte, is_of, is_inside, TakesAll, Shows, Runs, RunsOn, RunsTo, HasLine, Passes, PassesSign}
 use Rattle.text.specs.Stream.{PassesKept, PassesLine, Ends}
 use Rattle.text.specs.declared.stream.Class.{Class}
 use Rattle.text.specs.declared.stream.Class.TheVariants.{Blank, Digit, Inner}
@@ -46,8 +46,8 @@ known_only (Some text) (Some left) p so = so text left p
 
 -- ---- one byte
 
-first_is : (text block : List ℕ) → StartsWith text block → (length block ≡ 0 → text ≡ []) → next_of text ≡ slice_get block 0
-first_is text [] front end = ap next_of (end refl)
+first_is : (text block : List ℕ) → StartsWith text block → (length block ≡ 0 → text ≡ []) → front_byte text ≡ slice_get block 0
+first_is text [] front end = ap front_byte (end refl)
 first_is [] (b ∷ block) front end = cc
 first_is (c ∷ text) (b ∷ block) front end = cc
 
@@ -56,7 +56,7 @@ pub shown : (old mid new : Option (List ℕ)) (block : List ℕ) (next : Option 
 shown None mid new block next kept front end same is = tt
 shown (Some text) None new block next kept front end same is = absurd kept
 shown (Some text) (Some left) None block next kept front end same is = absurd same
-shown (Some text) (Some left) (Some rest) block next kept front end same is = (same ∙ kept, ap next_of (sym kept) ∙ first_is left block front end ∙ sym is)
+shown (Some text) (Some left) (Some rest) block next kept front end same is = (same ∙ kept, ap front_byte (sym kept) ∙ first_is left block front end ∙ sym is)
 
 pub room : (old mid : Option (List ℕ)) (limit : Option ℕ) (block : List ℕ) (next : Option ℕ) → Keeps old mid
     → IfSome mid (λ _. IfSome limit (λ n. length block ≤ n)) → next ≡ slice_get block 0 → IfSome next (λ _. IfSome old (λ _. IfSome limit (λ n. 1 ≤ n)))
@@ -70,7 +70,7 @@ room (Some text) (Some left) (Some n) (c ∷ block) (Some b) kept fits is = omeg
 abbrev pub One : ℕ → List ℕ → List ℕ → Type 0
 One byte text left = text ≡ byte ∷ left
 
-next_cons : (text : List ℕ) (b : ℕ) → next_of text ≡ Some b → text ≡ b ∷ drop 1 text
+next_cons : (text : List ℕ) (b : ℕ) → front_byte text ≡ Some b → text ≡ b ∷ drop 1 text
 next_cons [] b e = absurd cc
 next_cons (c ∷ text) b e = let same : c ≡ b = cc in ap (λ x. x ∷ text) same
 
@@ -149,11 +149,11 @@ keeps most old new run front grown is =
     grown ∙ ap (λ l. old ++ l) (take_min (most - length old) run) ∙ ap (λ l. l ++ take (most - length l) run) is ∙ sym (take_both most front run)
 
 stop_at : (p : ℕ → Bool) (block rest : List ℕ) → prefix_len p block < length block
-    → IfSome (next_of (drop (prefix_len p block) (block ++ rest))) (λ b. p b ≡ false)
+    → IfSome (front_byte (drop (prefix_len p block) (block ++ rest))) (λ b. p b ≡ false)
 stop_at p [] rest h = absurd (omega arith)
 stop_at p (b ∷ block) rest h =
     elim (p b) as (λ c. p b ≡ c → cond c (1 + prefix_len p block) 0 < length (b ∷ block)
-    → IfSome (next_of (drop (cond c (1 + prefix_len p block) 0) (b ∷ block ++ rest))) (λ b. p b ≡ false)) [
+    → IfSome (front_byte (drop (cond c (1 + prefix_len p block) 0) (b ∷ block ++ rest))) (λ b. p b ≡ false)) [
       | true ↦ λ e k. let one : 1 + prefix_len p block ≡ suc (prefix_len p block) = omega arith in rw one (stop_at p block rest (omega (arith, k)))
       | false ↦ λ e k. e
     ] refl h
@@ -188,17 +188,17 @@ ran class most count before after block ended (Some text) (Some left) new limit 
     fits_count None fits = tt
     fits_count (Some n) fits = omega (arith, fits, within)
 
-    nothing : (n : ℕ) → IfSome (next_of (drop n [])) (λ b. is_of class b ≡ false)
+    nothing : (n : ℕ) → IfSome (front_byte (drop n [])) (λ b. is_of class b ≡ false)
     nothing zero = tt
     nothing (suc n) = tt
 
 -- ---- the first line
 
-pub line_cons : (b : ℕ) (text : List ℕ) → is_inside b ≡ true → (line_of (b ∷ text) ≡ b ∷ line_of text) × (below (b ∷ text) ≡ below text)
+pub line_cons : (b : ℕ) (text : List ℕ) → is_inside b ≡ true → (line_of (b ∷ text) ≡ b ∷ line_of text) × (after_line (b ∷ text) ≡ after_line text)
 line_cons b text inside =
-    elim (b == 10) as (λ c. (b == 10) ≡ c → (not c && not (b == 13)) ≡ true → (line_of (b ∷ text) ≡ b ∷ line_of text) × (below (b ∷ text) ≡ below text)) [
+    elim (b == 10) as (λ c. (b == 10) ≡ c → (not c && not (b == 13)) ≡ true → (line_of (b ∷ text) ≡ b ∷ line_of text) × (after_line (b ∷ text) ≡ after_line text)) [
       | true ↦ λ e h. absurd cc
-      | false ↦ λ e h. elim (b == 13) as (λ d. (b == 13) ≡ d → not d ≡ true → (line_of (b ∷ text) ≡ b ∷ line_of text) × (below (b ∷ text) ≡ below text)) [
+      | false ↦ λ e h. elim (b == 13) as (λ d. (b == 13) ≡ d → not d ≡ true → (line_of (b ∷ text) ≡ b ∷ line_of text) × (after_line (b ∷ text) ≡ after_line text)) [
         | true ↦ λ f k. absurd cc
         | false ↦ λ f k. (rw e (goes_on (first_piece text) f), rw e refl)
       ] refl h
@@ -208,7 +208,7 @@ line_cons b text inside =
     goes_on [] f = rw f refl
     goes_on (c ∷ piece) f = refl
 
-pub line_run : (run text : List ℕ) → list_all is_inside run ≡ true → (line_of (run ++ text) ≡ run ++ line_of text) × (below (run ++ text) ≡ below text)
+pub line_run : (run text : List ℕ) → list_all is_inside run ≡ true → (line_of (run ++ text) ≡ run ++ line_of text) × (after_line (run ++ text) ≡ after_line text)
 line_run [] text all = (refl, refl)
 line_run (b ∷ run) text all =
     let h = and_parts (is_inside b) (list_all is_inside run) all in
@@ -227,7 +227,7 @@ inside_of p ten thirteen b has =
     rw (a, c) refl
 
 -- what does not begin with a byte of the class has no line that does
-pub line_stops : (p : ℕ → Bool) (text : List ℕ) → IfSome (next_of text) (λ b. p b ≡ false) → begins p (line_of text) ≡ false
+pub line_stops : (p : ℕ → Bool) (text : List ℕ) → IfSome (front_byte text) (λ b. p b ≡ false) → begins p (line_of text) ≡ false
 line_stops p [] stop = refl
 line_stops p (b ∷ text) stop =
     elim (b == 10) as (λ c. begins p (without_end 13 (cond c [] (b ∷ first_piece text))) ≡ false) [ true ↦ refl | false ↦ first (first_piece text) ]
@@ -239,7 +239,7 @@ line_stops p (b ∷ text) stop =
 -- past the blanks
 record PastBlanks (text left : List ℕ) : Type 0 where
   past : past_blanks (line_of text) ≡ line_of left
-  under : below text ≡ below left
+  under : after_line text ≡ after_line left
 
 past_of : (text left : List ℕ) → Runs Blank 0 [] text left → PastBlanks text left
 past_of text left runs =
@@ -247,7 +247,7 @@ past_of text left runs =
     record {
       past = ap (λ t. past_blanks (line_of t)) runs.cut ∙ ap past_blanks line
           ∙ past_gap runs.run (line_of left) runs.all (line_stops is_blank left runs.stop);
-      under = ap below runs.cut ∙ under;
+      under = ap after_line runs.cut ∙ under;
     }
 
 -- ---- signs
@@ -287,7 +287,7 @@ pub sign_passes : (token text mid left : List ℕ) (found : Bool) → list_all i
 sign_passes token text mid left true inside runs all =
     let blanks = past_of text mid runs in
     let (line, under) = line_run token left inside in
-    (sign_here token (line_of text) (line_of left) (blanks.past ∙ ap line_of all ∙ line), blanks.under ∙ ap below all ∙ under)
+    (sign_here token (line_of text) (line_of left) (blanks.past ∙ ap line_of all ∙ line), blanks.under ∙ ap after_line all ∙ under)
 sign_passes token text mid left false inside runs other =
     let blanks = past_of text mid runs in
     let (after, cut) = line_front mid in
@@ -302,7 +302,7 @@ pub next_is_not : (next : Option ℕ) (b : ℕ) (r : Bool) → r ≡ not (option
 next_is_not None b r test on e = cc
 next_is_not (Some a) b r test on e = absurd (true≢false (sym on ∙ test ∙ ap not (eq-eqb a b (some_same a b e))))
   where
-    some_same : (a b : ℕ) → next_of (a ∷ []) ≡ Some b → a ≡ b
+    some_same : (a b : ℕ) → front_byte (a ∷ []) ≡ Some b → a ≡ b
     some_same a b e = cc
 
 -- the sign is there
@@ -323,7 +323,7 @@ sign_missing token next (Some text) None runs other = absurd runs
 sign_missing token next (Some text) (Some left) (runs, at) other =
     let (after, cut) = line_front left in
     let blanks = past_of text left runs in
-    sign_none (token ∷ []) (line_of text) (λ rest e. other (sym at ∙ ap next_of (cut ∙ ap (λ l. l ++ after) (sym blanks.past ∙ e))))
+    sign_none (token ∷ []) (line_of text) (λ rest e. other (sym at ∙ ap front_byte (cut ∙ ap (λ l. l ++ after) (sym blanks.past ∙ e))))
 
 -- ---- numbers
 
@@ -405,10 +405,10 @@ number_passes digits text mid left r blanks runs is =
     let (line, under) = line_run runs.run left (all_of is_digit is_inside (inside_of is_digit refl refl) runs.run runs.all) in
     let found = number_is (line_of text) runs.run (line_of left) (past.past ∙ ap line_of runs.cut ∙ line) runs.all (line_stops is_digit left runs.stop) in
     let whole : whole_number runs.run ≡ r = sym (number_front runs.run runs.all) ∙ ap whole_number (sym runs.front) ∙ is in
-    answer r runs.run whole found (past.under ∙ ap below runs.cut ∙ under)
+    answer r runs.run whole found (past.under ∙ ap after_line runs.cut ∙ under)
   where
     answer : (r : Option ℕ) (run : List ℕ) → whole_number run ≡ r
-        → number_at (line_of text) ≡ cond (is_numeral run) (Some (capped (value_of run), line_of left)) None → below text ≡ below left
+        → number_at (line_of text) ≡ cond (is_numeral run) (Some (capped (value_of run), line_of left)) None → after_line text ≡ after_line left
         → Passes number_at r text left
     answer None run none found under = found ∙ ap (λ b. cond b (Some (capped (value_of run), line_of left)) None) (whole_none run none)
     answer (Some v) run some found under =
@@ -431,19 +431,19 @@ before_passes token text mid left v some signed = (rw (some.0, signed.0) refl, s
 
 -- ---- quotes
 
-piece_run : (run text : List ℕ) → list_all (is_other 10) run ≡ true → (first_piece (run ++ text) ≡ run ++ first_piece text) × (below (run ++ text) ≡ below text)
+piece_run : (run text : List ℕ) → list_all (is_other 10) run ≡ true → (first_piece (run ++ text) ≡ run ++ first_piece text) × (after_line (run ++ text) ≡ after_line text)
 piece_run [] text all = (refl, refl)
 piece_run (b ∷ run) text all =
     let h = and_parts (is_other 10 b) (list_all (is_other 10) run) all in
     let (piece, under) = piece_run run text h.1 in
     elim (b == 10) as (λ c. not c ≡ true → (cond c [] (b ∷ first_piece (run ++ text)) ≡ b ∷ run ++ first_piece text)
-    × (cond c (run ++ text) (below (run ++ text)) ≡ below text)) [
+    × (cond c (run ++ text) (after_line (run ++ text)) ≡ after_line text)) [
       | true ↦ λ e. absurd cc
       | false ↦ λ e. (ap (λ l. b ∷ l) piece, under)
     ] h.0
 
 -- the line before an LF
-pub piece_here : (run rest : List ℕ) → list_all (is_other 10) run ≡ true → (first_piece (run ++ 10 ∷ rest) ≡ run) × (below (run ++ 10 ∷ rest) ≡ rest)
+pub piece_here : (run rest : List ℕ) → list_all (is_other 10) run ≡ true → (first_piece (run ++ 10 ∷ rest) ≡ run) × (after_line (run ++ 10 ∷ rest) ≡ rest)
 piece_here run rest all = let (piece, under) = piece_run run (10 ∷ rest) all in (piece ∙ append-nil run, under)
 
 pub end_run : (end : ℕ) (run : List ℕ) (c : ℕ) (cs : List ℕ) → without_end end (run ++ c ∷ cs) ≡ run ++ without_end end (c ∷ cs)
@@ -468,7 +468,7 @@ inner_parts run all = (
 )
 
 -- what stops what quotes may stand around, where it is no quote
-stop_ten : (left : List ℕ) → IfSome (next_of left) (λ b. is_of Inner b ≡ false) → next_of left ≢ Some 34 → first_piece left ≡ []
+stop_ten : (left : List ℕ) → IfSome (front_byte left) (λ b. is_of Inner b ≡ false) → front_byte left ≢ Some 34 → first_piece left ≡ []
 stop_ten [] stop other = refl
 stop_ten (b ∷ left) stop other =
     elim (b == 10) as (λ c. (b == 10) ≡ c → cond c [] (b ∷ first_piece left) ≡ []) [
@@ -481,7 +481,7 @@ unfolding quoted_at
 quote_none most kept text left none = rw none refl
 
 pub quote_passes : (most : ℕ) (kept text mid last left : List ℕ) (found : Bool) → PassesSign (sign_at (34 ∷ [])) true text mid
-    → Runs Inner most kept mid last → MatchBool found (last ≡ 34 ∷ left) ((left ≡ last) × (next_of last ≢ Some 34))
+    → Runs Inner most kept mid last → MatchBool found (last ≡ 34 ∷ left) ((left ≡ last) × (front_byte last ≢ Some 34))
     → PassesKept quoted_at most kept found text left
 unfolding quoted_at
 quote_passes most kept text mid last left true signed runs shut =
@@ -491,7 +491,7 @@ quote_passes most kept text mid last left true signed runs shut =
     let (next, down) = line_cons 34 left refl in
     let line : line_of mid ≡ runs.run ++ 34 ∷ line_of left = ap line_of cut ∙ ap (without_end 13) piece ∙ end_run 13 runs.run 34 (first_piece left)
     ∙ ap (λ l. runs.run ++ l) next in
-    (runs.run, rw (signed.0, line) (cut_finds 34 runs.run (line_of left) (none_other 34 runs.run plain)), signed.1 ∙ ap below cut ∙ under ∙ down, runs.front)
+    (runs.run, rw (signed.0, line) (cut_finds 34 runs.run (line_of left) (none_other 34 runs.run plain)), signed.1 ∙ ap after_line cut ∙ under ∙ down, runs.front)
 quote_passes most kept text mid last left false signed runs (same, other) =
     let (plain, one) = inner_parts runs.run runs.all in
     let (piece, under) = piece_run runs.run last one in
@@ -500,17 +500,17 @@ quote_passes most kept text mid last left false signed runs (same, other) =
 
 -- ---- the end of the line, and of the text
 
-pieces_cons : (b : ℕ) (text : List ℕ) → pieces_of (b ∷ text) ≡ first_piece (b ∷ text) ∷ pieces_of (below (b ∷ text))
+pieces_cons : (b : ℕ) (text : List ℕ) → pieces_of (b ∷ text) ≡ first_piece (b ∷ text) ∷ pieces_of (after_line (b ∷ text))
 pieces_cons b [] = elim (b == 10) as (λ c. cond c ([] ∷ []) ((b ∷ []) ∷ []) ≡ cond c [] (b ∷ []) ∷ pieces_of (cond c [] [])) [ true ↦ refl | false ↦ refl ]
 pieces_cons b (d ∷ text) =
     elim (b == 10) as (λ c. cond c ([] ∷ pieces_of (d ∷ text)) (with_first b (pieces_of (d ∷ text)))
-    ≡ cond c [] (b ∷ first_piece (d ∷ text)) ∷ pieces_of (cond c (d ∷ text) (below (d ∷ text)))) [
+    ≡ cond c [] (b ∷ first_piece (d ∷ text)) ∷ pieces_of (cond c (d ∷ text) (after_line (d ∷ text)))) [
       | true ↦ refl
       | false ↦ ap (with_first b) (pieces_cons d text)
     ]
 
 -- the lines of a text that has not ended
-pub lines_cons : (b : ℕ) (text : List ℕ) → lines (b ∷ text) ≡ line_of (b ∷ text) ∷ lines (below (b ∷ text))
+pub lines_cons : (b : ℕ) (text : List ℕ) → lines (b ∷ text) ≡ line_of (b ∷ text) ∷ lines (after_line (b ∷ text))
 lines_cons b text = ap (map without_cr) (pieces_cons b text)
 
 pub has : (old new : Option (List ℕ)) (next : Option ℕ) (more : Bool) → Shows old new next → more ≡ is_some next → HasLine old new more
@@ -522,7 +522,7 @@ has (Some (b ∷ text)) (Some left) next more shows is = let yes : more ≡ true
 -- what is left past the blanks tells whether all is blank
 record LeftBlank (text left : List ℕ) : Type 0 where
   same : list_all is_blank (line_of text) ≡ list_all is_blank (line_of left)
-  under : below text ≡ below left
+  under : after_line text ≡ after_line left
 
 left_blank : (text left : List ℕ) → Runs Blank 0 [] text left → LeftBlank text left
 left_blank text left runs =
@@ -530,24 +530,24 @@ left_blank text left runs =
     record {
       same = ap (λ t. list_all is_blank (line_of t)) runs.cut ∙ ap (list_all is_blank) line
           ∙ front_all is_blank runs.run (line_of left) runs.all;
-      under = ap below runs.cut ∙ under;
+      under = ap after_line runs.cut ∙ under;
     }
 
 -- a CR was next, or was not
 abbrev pub Maybe : Bool → List ℕ → List ℕ → Type 0
-Maybe found text left = MatchBool found (text ≡ 13 ∷ left) ((left ≡ text) × (next_of text ≢ Some 13))
+Maybe found text left = MatchBool found (text ≡ 13 ∷ left) ((left ≡ text) × (front_byte text ≢ Some 13))
 
 pub ends_here : (text mid last left : List ℕ) (cr : Bool) → Runs Blank 0 [] text mid → Maybe cr mid last → last ≡ 10 ∷ left → Ends true text left
 ends_here text mid last left true runs cr lf =
     let blank = left_blank text mid runs in
     let cut : mid ≡ 13 ∷ 10 ∷ left = cr ∙ ap (λ l. 13 ∷ l) lf in
-    (blank.same ∙ ap (λ t. list_all is_blank (line_of t)) cut, sym (blank.under ∙ ap below cut))
+    (blank.same ∙ ap (λ t. list_all is_blank (line_of t)) cut, sym (blank.under ∙ ap after_line cut))
 ends_here text mid last left false runs (same, other) lf =
     let blank = left_blank text mid runs in
     let cut : mid ≡ 10 ∷ left = sym same ∙ lf in
-    (blank.same ∙ ap (λ t. list_all is_blank (line_of t)) cut, sym (blank.under ∙ ap below cut))
+    (blank.same ∙ ap (λ t. list_all is_blank (line_of t)) cut, sym (blank.under ∙ ap after_line cut))
 
-no_next : (text : List ℕ) → next_of text ≡ None → text ≡ []
+no_next : (text : List ℕ) → front_byte text ≡ None → text ≡ []
 no_next [] e = refl
 no_next (b ∷ text) e = absurd cc
 
@@ -561,16 +561,16 @@ none_is None false e = cc
 none_is (Some b) true e = cc
 none_is (Some b) false e = refl
 
-pub ends_or_not : (text mid last left : List ℕ) (cr : Bool) (next : Option ℕ) → Runs Blank 0 [] text mid → Maybe cr mid last → next_of last ≢ Some 10
-    → left ≡ last → next_of last ≡ next → Ends (is_none next) text left
+pub ends_or_not : (text mid last left : List ℕ) (cr : Bool) (next : Option ℕ) → Runs Blank 0 [] text mid → Maybe cr mid last → front_byte last ≢ Some 10
+    → left ≡ last → front_byte last ≡ next → Ends (is_none next) text left
 ends_or_not text mid last left true None runs cr other same end =
     let blank = left_blank text mid runs in
     let cut : mid ≡ 13 ∷ [] = cr ∙ ap (λ l. 13 ∷ l) (no_next last end) in
-    (blank.same ∙ ap (λ t. list_all is_blank (line_of t)) cut, same ∙ no_next last end ∙ sym (blank.under ∙ ap below cut))
+    (blank.same ∙ ap (λ t. list_all is_blank (line_of t)) cut, same ∙ no_next last end ∙ sym (blank.under ∙ ap after_line cut))
 ends_or_not text mid last left false None runs (kept, first) other same end =
     let blank = left_blank text mid runs in
     let cut : mid ≡ [] = sym kept ∙ no_next last end in
-    (blank.same ∙ ap (λ t. list_all is_blank (line_of t)) cut, same ∙ no_next last end ∙ sym (blank.under ∙ ap below cut))
+    (blank.same ∙ ap (λ t. list_all is_blank (line_of t)) cut, same ∙ no_next last end ∙ sym (blank.under ∙ ap after_line cut))
 ends_or_not text mid last left true (Some b) runs cr other same next =
     let blank = left_blank text mid runs in
     let cut : mid ≡ 13 ∷ b ∷ drop 1 last = cr ∙ ap (λ l. 13 ∷ l) (next_cons last b next) in
@@ -579,16 +579,16 @@ ends_or_not text mid last left false (Some b) runs (kept, first) other same next
     let blank = left_blank text mid runs in
     let cut : mid ≡ b ∷ drop 1 last = sym kept ∙ next_cons last b next in
     let ten : (b == 10) ≡ false = ne_eqb b 10 (λ e. other (next ∙ ap Some e)) in
-    let thirteen : (b == 13) ≡ false = ne_eqb b 13 (λ e. first (ap next_of (sym kept) ∙ next ∙ ap Some e)) in
+    let thirteen : (b == 13) ≡ false = ne_eqb b 13 (λ e. first (ap front_byte (sym kept) ∙ next ∙ ap Some e)) in
     let line = line_cons b (drop 1 last) (rw (ten, thirteen) refl) in
-    let stop : is_blank b ≡ false = subst (λ t. IfSome (next_of t) (λ c. is_blank c ≡ false)) cut runs.stop in
+    let stop : is_blank b ≡ false = subst (λ t. IfSome (front_byte t) (λ c. is_blank c ≡ false)) cut runs.stop in
     blank.same ∙ ap (λ t. list_all is_blank (line_of t)) cut ∙ ap (list_all is_blank) line.0 ∙ rw stop refl
 
 abbrev NoLf : List ℕ → List ℕ → Type 0
-NoLf text left = (left ≡ text) × (next_of text ≢ Some 10)
+NoLf text left = (left ≡ text) × (front_byte text ≢ Some 10)
 
 abbrev Shown : Option ℕ → List ℕ → List ℕ → Type 0
-Shown next text left = (left ≡ text) × (next_of text ≡ next)
+Shown next text left = (left ≡ text) × (front_byte text ≡ next)
 
 pub ends_known : (old a b c d : Option (List ℕ)) (first : Option ℕ) (cr : Bool) (next : Option ℕ) → IfKnown old a (RunsTo Blank first)
     → IfKnown a b (Maybe cr) → IfKnown b c NoLf → IfKnown c d (Shown next) → IfKnown old d (Ends (is_none next))
@@ -596,7 +596,7 @@ ends_known old a b c d first cr next blanks maybe other shows =
     known_then {Q = Then (Maybe cr) (Then NoLf (Shown next))} old a d blanks
     (known_both (Maybe cr) (Then NoLf (Shown next)) a b d maybe (known_both NoLf (Shown next) b c d other shows))
     (λ text mid left to rest. let (runs, at) = to in let (last, is_cr, after) = rest in let (kept, no_lf, shown) = after
-    in ends_or_not text mid last left cr next runs is_cr no_lf.1 (shown.0 ∙ no_lf.0) (ap next_of (sym no_lf.0) ∙ shown.1))
+    in ends_or_not text mid last left cr next runs is_cr no_lf.1 (shown.0 ∙ no_lf.0) (ap front_byte (sym no_lf.0) ∙ shown.1))
 
 -- ---- the tokens of a line, one after the other
 

@@ -18,12 +18,12 @@ abbrev pub line_of : List ℕ → List ℕ
 line_of text = without_cr (first_piece text)
 
 -- what follows the first LF
-abbrev pub below : List ℕ → List ℕ
-below = drop_through 10
+abbrev pub after_line : List ℕ → List ℕ
+after_line = drop_through 10
 
-abbrev pub next_of : List ℕ → Option ℕ
-next_of [] = None
-next_of (b ∷ text) = Some b
+abbrev pub front_byte : List ℕ → Option ℕ
+front_byte [] = None
+front_byte (b ∷ text) = Some b
 
 -- the bytes of a class: `Inner` are those that a quote may stand around
 abbrev pub is_of : Class → ℕ → Bool
@@ -33,11 +33,11 @@ is_of Inner b = not (b == 34) && not (b == 10)
 
 -- the next byte is looked at, and left
 abbrev pub Shows : Option (List ℕ) → Option (List ℕ) → Option ℕ → Type 0
-Shows old new next = IfKnown old new (λ text left. (left ≡ text) × (next_of text ≡ next))
+Shows old new next = IfKnown old new (λ text left. (left ≡ text) × (front_byte text ≡ next))
 
 -- this byte was next, and is taken; or another, or none, and nothing is
 abbrev pub Takes : Option (List ℕ) → Option (List ℕ) → ℕ → Bool → Type 0
-Takes old new byte found = IfKnown old new (λ text left. MatchBool found (text ≡ byte ∷ left) ((left ≡ text) × (next_of text ≢ Some byte)))
+Takes old new byte found = IfKnown old new (λ text left. MatchBool found (text ≡ byte ∷ left) ((left ≡ text) × (front_byte text ≢ Some byte)))
 
 -- the bytes of this word were next, and are taken; or they were not
 abbrev pub TakesAll : List ℕ → Bool → List ℕ → List ℕ → Type 0
@@ -52,7 +52,7 @@ pub record Runs (class : Class) (most : ℕ) (kept text left : List ℕ) : Type 
   pub run : List ℕ
   pub cut : text ≡ run ++ left
   pub all : IsTrue (list_all (is_of class) run)
-  pub stop : IfSome (next_of left) (λ b. IsFalse (is_of class b))
+  pub stop : IfSome (front_byte left) (λ b. IsFalse (is_of class b))
   pub front : kept ≡ take most run
 
 -- The bytes of the class in front are taken as far as they were at hand, and the first of them kept beside those that were kept of the bytes before.
@@ -61,37 +61,37 @@ pub record RunsOn (class : Class) (most : ℕ) (before after : List ℕ) (ended 
   pub run : List ℕ
   pub cut : text ≡ run ++ left
   pub all : IsTrue (list_all (is_of class) run)
-  pub stop : IsTrue ended → IfSome (next_of left) (λ b. IsFalse (is_of class b))
+  pub stop : IsTrue ended → IfSome (front_byte left) (λ b. IsFalse (is_of class b))
   pub more : (front : List ℕ) → before ≡ take most front → after ≡ take most (front ++ run)
 
 -- the bytes of the class in front are taken, and this byte is next
 abbrev pub RunsTo : Class → Option ℕ → List ℕ → List ℕ → Type 0
-RunsTo class next text left = Runs class 0 [] text left × (next_of left ≡ next)
+RunsTo class next text left = Runs class 0 [] text left × (front_byte left ≡ next)
 
 -- there is a line, or the text has ended; nothing is taken
 abbrev pub HasLine : Option (List ℕ) → Option (List ℕ) → Bool → Type 0
-HasLine old new more = IfKnown old new (λ text left. (left ≡ text) × MatchBool more (lines text ≡ line_of text ∷ lines (below text)) (lines text ≡ []))
+HasLine old new more = IfKnown old new (λ text left. (left ≡ text) × MatchBool more (lines text ≡ line_of text ∷ lines (after_line text)) (lines text ≡ []))
 
 -- the front of the line is what `at` finds there, and what follows it is left; or `at` finds nothing
 abbrev pub Passes : {A : Type 0} → (List ℕ → Option (A × List ℕ)) → Option A → List ℕ → List ℕ → Type 0
-Passes at (Some a) text left = (at (line_of text) ≡ Some (a, line_of left)) × (below text ≡ below left)
+Passes at (Some a) text left = (at (line_of text) ≡ Some (a, line_of left)) × (after_line text ≡ after_line left)
 Passes at None text left = at (line_of text) ≡ None
 
 -- the same where nothing but what follows is found
 abbrev pub PassesSign : (List ℕ → Option (List ℕ)) → Bool → List ℕ → List ℕ → Type 0
-PassesSign at found text left = MatchBool found ((at (line_of text) ≡ Some (line_of left)) × (below text ≡ below left)) (at (line_of text) ≡ None)
+PassesSign at found text left = MatchBool found ((at (line_of text) ≡ Some (line_of left)) × (after_line text ≡ after_line left)) (at (line_of text) ≡ None)
 
 -- the same where the first bytes of what is found are kept
 abbrev pub PassesKept : (List ℕ → Option (List ℕ × List ℕ)) → ℕ → List ℕ → Bool → List ℕ → List ℕ → Type 0
 PassesKept at most kept found text left =
-    MatchBool found ((whole : List ℕ) × (at (line_of text) ≡ Some (whole, line_of left)) × (below text ≡ below left) × (kept ≡ take most whole))
+    MatchBool found ((whole : List ℕ) × (at (line_of text) ≡ Some (whole, line_of left)) × (after_line text ≡ after_line left) × (kept ≡ take most whole))
     (at (line_of text) ≡ None)
 
 -- nothing but blanks was left of the line, and it is taken with its end; or something was
 abbrev pub Ends : Bool → List ℕ → List ℕ → Type 0
-Ends found text left = MatchBool found (IsTrue (list_all is_blank (line_of text)) × (left ≡ below text)) (IsFalse (list_all is_blank (line_of text)))
+Ends found text left = MatchBool found (IsTrue (list_all is_blank (line_of text)) × (left ≡ after_line text)) (IsFalse (list_all is_blank (line_of text)))
 
 -- the whole line is what `at` finds, and it is taken with its end; or `at` finds nothing
 abbrev pub PassesLine : {A : Type 0} → (List ℕ → Option A) → Option A → List ℕ → List ℕ → Type 0
-PassesLine at (Some a) text left = (at (line_of text) ≡ Some a) × (left ≡ below text)
+PassesLine at (Some a) text left = (at (line_of text) ≡ Some a) × (left ≡ after_line text)
 PassesLine at None text left = at (line_of text) ≡ None

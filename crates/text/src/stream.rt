@@ -246,7 +246,7 @@ pub fn quoted<B: Blocks>(reader: &mut B, most: usize, kept: &mut Vec<u8>) -> Res
 ///
 /// # Errors
 /// A read failed, or memory was refused. What the reader has left then isn't said.
-pub fn ends<B: Blocks>(reader: &mut B) -> Result<bool, ReadFault>
+pub fn has_ended<B: Blocks>(reader: &mut B) -> Result<bool, ReadFault>
     ensures { MatchResult result (λ found. IfKnown (B.remaining reader.old) (B.remaining reader.new) (Ends found)) (HasCause B.can_fail Read) }
 {
     skip_blanks(reader)?;

@@ -7,7 +7,7 @@ use Rattle.game.specs.declared.player.Player.TheVariants.{Even, Odd}
 use Rattle.game.specs.Game.{Game}
 use Rattle.evidence.specs.Canon.{evidence_text}
 use Rattle.evidence.specs.Evidence.{Entry, Evidence}
-use Rattle.evidence.specs.Fault.{HasFault, LineFault}
+use Rattle.evidence.specs.Fault.{HasEvidenceFault, EvidenceLineFault}
 use Rattle.evidence.specs.Scan.{count_before, fields_of, move_of, number_of}
 use Rattle.evidence.specs.Spelling.{AreGoodRows, IsEvidenceText, IsShaped, EntryRow}
 use Rattle.evidence.specs.Verdict.{both_text, verdict_text}
@@ -117,23 +117,23 @@ refused : (width : ℕ) (line : List ℕ) → row_of width line ≡ None → (x 
 refused width line none x h = let found = row_found width line x h in cc
 
 -- two counts where there is one component; a count above the limit; none; a second space; a CR before the end
-too_many : LineFault 16 1 [] (codes "5 13 (0,0)") BadLine
+too_many : EvidenceLineFault 16 1 [] (codes "5 13 (0,0)") BadLine
 unfolding fields_of number_of move_of count_before cut_at
 too_many = refused 1 (codes "5 13 (0,0)") refl
 
-too_great : LineFault 16 1 [] (codes "5 13 (16777217)") BadLine
+too_great : EvidenceLineFault 16 1 [] (codes "5 13 (16777217)") BadLine
 unfolding fields_of number_of move_of count_before cut_at
 too_great = refused 1 (codes "5 13 (16777217)") refl
 
-no_count : LineFault 16 1 [] (codes "5 13 ()") BadLine
+no_count : EvidenceLineFault 16 1 [] (codes "5 13 ()") BadLine
 unfolding fields_of number_of move_of count_before cut_at
 no_count = refused 1 (codes "5 13 ()") refl
 
-two_spaces : LineFault 16 1 [] (codes "5  13 (0)") BadLine
+two_spaces : EvidenceLineFault 16 1 [] (codes "5  13 (0)") BadLine
 unfolding fields_of number_of move_of count_before cut_at
 two_spaces = refused 1 (codes "5  13 (0)") refl
 
-carriage_return : LineFault 16 1 [] (codes "5 13 (0)" ++ 13 ∷ []) BadLine
+carriage_return : EvidenceLineFault 16 1 [] (codes "5 13 (0)" ++ 13 ∷ []) BadLine
 unfolding fields_of number_of move_of count_before cut_at
 carriage_return = refused 1 (codes "5 13 (0)" ++ 13 ∷ []) refl
 
@@ -156,7 +156,7 @@ line_16 = record {
   small = (omega arith, tt);
 }
 
-no_vertex : HasFault often_a_game (lined (codes "evidence even" ∷ codes "16 0 (0)" ∷ [])) BadVertex 2
+no_vertex : HasEvidenceFault often_a_game (lined (codes "evidence even" ∷ codes "16 0 (0)" ∷ [])) BadVertex 2
 no_vertex = (
   Even,
   codes "16 0 (0)" ∷ [],
@@ -176,5 +176,5 @@ no_vertex = (
 )
 
 -- the empty text has no header
-no_header : HasFault often_a_game [] BadHeader 1
+no_header : HasEvidenceFault often_a_game [] BadHeader 1
 no_header = (λ player rest e. cc, refl)

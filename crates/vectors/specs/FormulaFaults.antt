@@ -10,11 +10,11 @@ use Rattle.grammar.specs.Token.{Cuts, is_free_name, reserved_words}
 use Rattle.grammar.specs.Syntax.{Syntax, RegSyntax, Anything', Nothing', Tau', Names', Quoted', Parens', Not', And', Or', Implies', Star', Plus', Then'}
 use Rattle.grammar.specs.Syntax.{Either', reg_tokens, Dia', True', Var', Mu', Neg', False', Group', Both', OneOf', If', Box', Nu', tokens, nesting}
 use Rattle.grammar.specs.Syntax.{is_within_limits}
-use Rattle.formula.specs.Fault.{HasFault, NothingBegins}
+use Rattle.formula.specs.Fault.{HasFormulaFault, NothingBegins}
 use Rattle.formula.specs.declared.error.FormulaFault.TheVariants.{NoToken, Unexpected, Unfinished, ReservedWord, Unbound, OddNegations, NotAnAction, TooLarge}
 
 -- mu X. !X: the variable at offset 7 stands under one negation
-odd : HasFault (codes "mu X. !X") OddNegations 7
+odd : HasFormulaFault (codes "mu X. !X") OddNegations 7
 odd = inr (
   omega arith,
   inr (inr (
@@ -37,7 +37,7 @@ odd = inr (
 )
 
 -- mu X. Y: no binder
-unbound : HasFault (codes "mu X. Y") Unbound 6
+unbound : HasFormulaFault (codes "mu X. Y") Unbound 6
 unbound = inr (
   omega arith,
   inr (inr (
@@ -60,7 +60,7 @@ unbound = inr (
 )
 
 -- <(a.b) && c>true: the operand at offset 1 is no action formula
-no_action : HasFault (codes "<(a.b) && c>true") NotAnAction 1
+no_action : HasFormulaFault (codes "<(a.b) && c>true") NotAnAction 1
 no_action = inr (
   omega arith,
   inr (inr (
@@ -103,7 +103,7 @@ no_action = inr (
 )
 
 -- forall: a reserved word
-reserved : HasFault (codes "forall") ReservedWord 0
+reserved : HasFormulaFault (codes "forall") ReservedWord 0
 reserved = inr (omega arith, inl ([], codes "forall", [], refl, tt, refl, refl, refl, refl))
 
 append_nil : {A : Type 0} (xs : List A) → xs ++ [] ≡ xs
@@ -130,7 +130,7 @@ some_token (Mu' name f) e = cc
 some_token (Nu' name f) e = cc
 
 -- the empty text
-empty : HasFault [] Unfinished 0
+empty : HasFormulaFault [] Unfinished 0
 empty = inr (
   omega arith,
   inr (inl (
@@ -175,7 +175,7 @@ no_less_plus (Mu' name f) ts more e = cc
 no_less_plus (Nu' name f) ts more e = cc
 
 -- <+>true: the `+` is the postfix sign, and no formula begins so
-unexpected : HasFault (codes "<+>true") Unexpected 1
+unexpected : HasFormulaFault (codes "<+>true") Unexpected 1
 unexpected = inr (
   omega arith,
   inr (inl (
@@ -237,7 +237,7 @@ too_deep : (s : Syntax) (more : List Token) → tokens s ≡ nots 257 more → I
 too_deep s more e h = let q = nested 257 s [] more (append_nil (tokens s) ∙ e) in grind (arith, nat_tests, q, h)
 
 -- 257 times `!`, and then true: the last `!` is one too many
-too_nested : HasFault (not_true 257) TooLarge 256
+too_nested : HasFormulaFault (not_true 257) TooLarge 256
 too_nested = inr (
   omega arith,
   inr (inl (
@@ -294,7 +294,7 @@ lone_and more (Word PlusSign) rest h k e = absurd (omega (arith, first_byte e))
 lone_and more (Word StarSign) rest h k e = absurd (omega (arith, first_byte e))
 
 -- true & true: at the `&` no token begins
-no_token : HasFault (codes "true & true") NoToken 5
+no_token : HasFormulaFault (codes "true & true") NoToken 5
 no_token = inr (
   omega arith,
   inl (Word TrueWord ∷ Blank 32 ∷ [], codes "& true", refl, (tt, refl, (refl, refl, tt)), refl, (λ e. cc), lone_and (codes "true"), refl),

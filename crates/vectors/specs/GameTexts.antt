@@ -2,16 +2,16 @@
 use Rattle.std.specs.Prelude.{ℕ, [], ◌∷◌, ◌++◌, None, codes, refl}
 use Rattle.std.proofs.Common.{arith, inl, inr}
 use Rattle.game.specs.declared.player.Player.TheVariants.{Even}
-use Rattle.pgsolver.specs.Fault.{HasFault}
-use Rattle.pgsolver.specs.Spelling.{AreGoodLines, IsHeader, IsLine, VertexLine}
+use Rattle.pgsolver.specs.Fault.{HasPgFault}
+use Rattle.pgsolver.specs.Spelling.{AreGoodLines, IsPgHeader, IsLine, VertexLine}
 use Rattle.pgsolver.specs.declared.error.PgFault.TheVariants.{BadHeader, BadIdentifier}
 
 -- the empty text has no header
-no_header : HasFault [] BadHeader 1
+no_header : HasPgFault [] BadHeader 1
 no_header = inl (λ first rest n e h. cc, refl)
 
 -- parity 0;
-header_of_one : IsHeader (codes "parity 0;") 0
+header_of_one : IsPgHeader (codes "parity 0;") 0
 header_of_one = (
   codes "0",
   (refl, refl),
@@ -68,7 +68,7 @@ nothing_before : AreGoodLines 0 [] []
 nothing_before = record { each = tt; within = tt; once = λ i j d l k. absurd (omega (arith, k)) }
 
 -- the greatest identifier is 0
-identifier_too_great : HasFault (codes "parity 0;" ++ 10 ∷ (codes "1 0 0 0;" ++ 10 ∷ [])) BadIdentifier 2
+identifier_too_great : HasPgFault (codes "parity 0;" ++ 10 ∷ (codes "1 0 0 0;" ++ 10 ∷ [])) BadIdentifier 2
 identifier_too_great =
     inr (
       codes "parity 0;",

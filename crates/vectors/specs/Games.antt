@@ -8,7 +8,7 @@ use Rattle.std.proofs.lemmas.Bool.Decides.{nat_tests}
 use Rattle.vectors.specs.Systems.{two_states}
 use Rattle.calculus.specs.Tree.{Step, Dia, Box, True, False, Anything}
 use Rattle.vectors.specs.Formulas.{name_a, often_a}
-use Rattle.normal.specs.Nodes.{nodes}
+use Rattle.forms.specs.Nodes.{nodes}
 use Rattle.game.specs.declared.player.Player.{Player}
 use Rattle.game.specs.declared.player.Player.TheVariants.{Even, Odd}
 use Rattle.game.specs.Game.{Game, IsAscending, IsGame, IsVertex, Vertex, dual, vertex}
@@ -21,10 +21,10 @@ abbrev pub vertex_at : ℕ → Player → List ℕ → Vertex
 vertex_at p o ss = record { owner = o; priority = p; successors = ss }
 
 -- <a>true on the two-state system
-abbrev pub one_step : Game
-one_step = arena two_states (nodes (Dia (Step name_a) True))
+abbrev pub game_of_one_step : Game
+game_of_one_step = arena two_states (nodes (Dia (Step name_a) True))
 
-vertices_one_step : one_step.vertices ≡ vertex_at 0 Even (0 ∷ []) ∷ vertex_at 1 Even (1 ∷ []) ∷ vertex_at 0 Even (5 ∷ []) ∷ vertex_at 0 Even (0 ∷ [])
+vertices_one_step : game_of_one_step.vertices ≡ vertex_at 0 Even (0 ∷ []) ∷ vertex_at 1 Even (1 ∷ []) ∷ vertex_at 0 Even (5 ∷ []) ∷ vertex_at 0 Even (0 ∷ [])
     ∷ vertex_at 0 Even (1 ∷ []) ∷ vertex_at 0 Even (0 ∷ []) ∷ []
 vertices_one_step = refl
 
@@ -131,15 +131,15 @@ three : (v : ℕ) → IsTrue (in_three v) → (v ≡ 0) ⊎ ((v ≡ 2) ⊎ (v �
 three v h = grind (arith, nat_tests)
 
 abbrev edge : ℕ → ℕ → Type 0
-edge = Edge Even one_step next_of
+edge = Edge Even game_of_one_step next_of
 
 -- at one of the three: Even owns it, its choice is its successor and one of the three, and its priority is 0
 record Fine (u : ℕ) : Type 0 where
-  priority : priority_at (vertex one_step u) ≡ 0
-  own : (v : Vertex) → vertex one_step u ≡ Some v → Contains v.successors (next_of u)
+  priority : priority_at (vertex game_of_one_step u) ≡ 0
+  own : (v : Vertex) → vertex game_of_one_step u ≡ Some v → Contains v.successors (next_of u)
   stays : (t : ℕ) → edge u t → IsTrue (in_three t)
 
-stays_at : (u : ℕ) (x : Vertex) → vertex one_step u ≡ Some x → x.owner ≡ Even → IsTrue (in_three (next_of u)) → (t : ℕ) → edge u t → IsTrue (in_three t)
+stays_at : (u : ℕ) (x : Vertex) → vertex game_of_one_step u ≡ Some x → x.owner ≡ Even → IsTrue (in_three (next_of u)) → (t : ℕ) → edge u t → IsTrue (in_three t)
 stays_at u x is even h t (v, at, inl (o, q)) = subst (λ y. IsTrue (in_three y)) (sym q) h
 stays_at u x is even h t (v, at, inr (o, c)) = let e : v ≡ x = cc (at, is) in absurd (o (ap (λ (y : Vertex). y.owner) e ∙ even))
 
@@ -170,11 +170,11 @@ fine_5 = record {
 fine : (u : ℕ) → IsTrue (in_three u) → Fine u
 fine u h = elim (three u h) [ inl e ↦ subst Fine (sym e) fine_0 | inr w ↦ elim w [ inl e ↦ subst Fine (sym e) fine_2 | inr e ↦ subst Fine (sym e) fine_5 ] ]
 
-met_none : (u : ℕ) (others : List ℕ) (t : ℕ) → IsTrue (in_three u) → IsPath edge u others t → greatest_met one_step others ≡ 0
+met_none : (u : ℕ) (others : List ℕ) (t : ℕ) → IsTrue (in_three u) → IsPath edge u others t → greatest_met game_of_one_step others ≡ 0
 met_none u [] t h p = refl
 met_none u (m ∷ others) t h p = let i = (fine u h).stays m p.0 in ap₂ max (fine m i).priority (met_none m others t i p.1)
 
-pub wins_one_step : Wins one_step 2
+pub wins_one_step : Wins game_of_one_step 2
 wins_one_step = record {
   set = in_three;
   choice = next_of;
@@ -195,17 +195,17 @@ two : (v : ℕ) → IsTrue (in_two v) → (v ≡ 1) ⊎ (v ≡ 4)
 two v h = grind (arith, nat_tests)
 
 abbrev odd_edge : ℕ → ℕ → Type 0
-odd_edge = Edge Odd one_step (λ v. 0)
+odd_edge = Edge Odd game_of_one_step (λ v. 0)
 
 -- such a vertex is Even's
-not_odds : (u p : ℕ) → vertex one_step u ≡ Some (vertex_at p Even (1 ∷ [])) → (v : Vertex) → vertex one_step u ≡ Some v → v.owner ≡ Odd → ⊥
+not_odds : (u p : ℕ) → vertex game_of_one_step u ≡ Some (vertex_at p Even (1 ∷ [])) → (v : Vertex) → vertex game_of_one_step u ≡ Some v → v.owner ≡ Odd → ⊥
 not_odds u p is v at o = let e : v ≡ vertex_at p Even (1 ∷ []) = cc (at, is) in even_not_odd (sym (ap (λ (y : Vertex). y.owner) e) ∙ o)
   where
     even_not_odd : Even ≡ Odd → ⊥
     even_not_odd e = cc
 
 -- Even owns the vertex, and its only successor is the false sink
-to_sink : (u : ℕ) (p : ℕ) → vertex one_step u ≡ Some (vertex_at p Even (1 ∷ [])) → (t : ℕ) → odd_edge u t → t ≡ 1
+to_sink : (u : ℕ) (p : ℕ) → vertex game_of_one_step u ≡ Some (vertex_at p Even (1 ∷ [])) → (t : ℕ) → odd_edge u t → t ≡ 1
 to_sink u p is t (v, at, inl (o, q)) = absurd (not_odds u p is v at o)
 to_sink u p is t (v, at, inr (o, c)) = let e : v ≡ vertex_at p Even (1 ∷ []) = cc (at, is) in only_one t (subst (λ (x : Vertex). Contains x.successors t) e c)
   where
@@ -219,14 +219,14 @@ next_is_sink u t h e = elim (two u h) [
   | inr q ↦ to_sink 4 0 refl t (subst (λ x. odd_edge x t) q e)
 ]
 
-met_one : (u : ℕ) (m : ℕ) (others : List ℕ) (t : ℕ) → IsTrue (in_two u) → IsPath odd_edge u (m ∷ others) t → greatest_met one_step (m ∷ others) ≡ 1
-met_one u m [] t h p = let q = next_is_sink u m h p.0 in ap (λ v. greatest_met one_step (v ∷ [])) q
+met_one : (u : ℕ) (m : ℕ) (others : List ℕ) (t : ℕ) → IsTrue (in_two u) → IsPath odd_edge u (m ∷ others) t → greatest_met game_of_one_step (m ∷ others) ≡ 1
+met_one u m [] t h p = let q = next_is_sink u m h p.0 in ap (λ v. greatest_met game_of_one_step (v ∷ [])) q
 met_one u m (o ∷ others) t h p =
     let q = next_is_sink u m h p.0 in
     let rest = met_one m o others t (subst (λ v. IsTrue (in_two v)) (sym q) refl) p.1 in
-    ap₂ (λ v n. max (priority_at (vertex one_step v)) n) q rest
+    ap₂ (λ v n. max (priority_at (vertex game_of_one_step v)) n) q rest
 
-pub odd_wins_one_step : OddWins one_step 4
+pub odd_wins_one_step : OddWins game_of_one_step 4
 odd_wins_one_step = record {
   set = in_two;
   choice = λ v. 0;
@@ -239,13 +239,13 @@ odd_wins_one_step = record {
   };
 }
   where
-    own : (u : ℕ) (v : Vertex) → IsTrue (in_two u) → vertex one_step u ≡ Some v → v.owner ≡ Odd → Contains v.successors 0
+    own : (u : ℕ) (v : Vertex) → IsTrue (in_two u) → vertex game_of_one_step u ≡ Some v → v.owner ≡ Odd → Contains v.successors 0
     own u v h at o = absurd (elim (two u h) [
-      | inl q ↦ not_odds 1 1 refl v (subst (λ x. vertex one_step x ≡ Some v) q at) o
-      | inr q ↦ not_odds 4 0 refl v (subst (λ x. vertex one_step x ≡ Some v) q at) o
+      | inl q ↦ not_odds 1 1 refl v (subst (λ x. vertex game_of_one_step x ≡ Some v) q at) o
+      | inr q ↦ not_odds 4 0 refl v (subst (λ x. vertex game_of_one_step x ≡ Some v) q at) o
     ])
 
-    cycles : (u : ℕ) (others : List ℕ) → IsTrue (in_two u) → others ≢ [] → IsPath odd_edge u others u → IsOf Odd (greatest_met one_step others)
+    cycles : (u : ℕ) (others : List ℕ) → IsTrue (in_two u) → others ≢ [] → IsPath odd_edge u others u → IsOf Odd (greatest_met game_of_one_step others)
     cycles u [] h n p = absurd (n refl)
     cycles u (m ∷ others) h n p = ap (λ k. k % 2) (met_one u m others u h p)
 

@@ -2,7 +2,7 @@
 use Rattle.std.specs.Prelude.{◌≡◌, ℕ, zero, suc, List, [], ◌∷◌, length, map, codes, refl, AllPairs, Contains}
 use Rattle.calculus.specs.Tree.{Formula, Step, Or, Dia, Var, Mu, Nu}
 use Rattle.vectors.specs.Formulas.{name_a, name_b}
-use Rattle.normal.specs.Nodes.{nodes}
+use Rattle.forms.specs.Nodes.{nodes}
 use Rattle.systems.specs.System.{System}
 use Rattle.vectors.specs.Systems.{arrow}
 use Rattle.game.specs.Game.{Game, count}

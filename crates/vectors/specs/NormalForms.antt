@@ -5,11 +5,11 @@ use Rattle.std.specs.Fmt.{digits}
 use Rattle.std.proofs.Common.{arith, lit<, lit≤}
 use Rattle.calculus.specs.Tree.{Anything, Regular, Step, Then, Either, Star, Plus, Formula, True, False, Var, Not, And, Or, Dia, Box, Mu, Nu}
 use Rattle.vectors.specs.Formulas.{often_a, plus_or_b, name_a, name_b}
-use Rattle.normal.specs.Tree.{normal_form, Shape, ConstantNode, JunctionNode, ModalityNode, FixpointNode, VariableNode, depth, size, chain, node_count}
-use Rattle.normal.specs.Tree.{modal_count, formula_from}
-use Rattle.normal.specs.Nodes.{nodes, Node, greatest_nested, greatest_priority}
-use Rattle.normal.specs.Rules.{nodes_with}
-use Rattle.normal.specs.declared.priorities.Priorities.TheVariants.{Dependent}
+use Rattle.forms.specs.Tree.{normal_form, Shape, ConstantNode, JunctionNode, ModalityNode, FixpointNode, VariableNode, depth, size, chain, node_count}
+use Rattle.forms.specs.Tree.{modal_count, formula_from}
+use Rattle.forms.specs.Nodes.{nodes, Node, greatest_nested, greatest_node_priority}
+use Rattle.forms.specs.Rules.{nodes_with}
+use Rattle.forms.specs.declared.priorities.Priorities.TheVariants.{Dependent}
 use Rattle.text.specs.Pieces.{line_end}
 use Rattle.normal.specs.NormalText.{normal_text}
 use Rattle.normal.specs.Refused.{HasRefusal}
@@ -113,7 +113,7 @@ one_binder_more = (lit≤ tt, lit< tt)
 -- ---- dependent priorities
 
 -- binders that don't depend on each other share a priority
-no_binder_too_many : greatest_priority (nodes_with Dependent (alternating 32)) ≡ 1
+no_binder_too_many : greatest_node_priority (nodes_with Dependent (alternating 32)) ≡ 1
 no_binder_too_many = refl
 
 -- in nu X. mu Y. (<a>X || <b>Y) the outer variable stands inside the inner binder
@@ -124,7 +124,7 @@ often_a_dependent = refl
 abbrev apart : Formula
 apart = Nu (codes "X") (And (Dia (Step name_a) (Var (codes "X"))) (Mu (codes "Y") (Dia (Step name_b) (Var (codes "Y")))))
 
-apart_nested : greatest_priority (nodes apart) ≡ 2
+apart_nested : greatest_node_priority (nodes apart) ≡ 2
 apart_nested = refl
 
 apart_dependent : nodes_with Dependent apart

@@ -1,19 +1,19 @@
 -- Worked examples of texts that spell no schedule, with the fault that decides and its line.
 use Rattle.std.specs.Prelude.{◌∷◌, ◌++◌, [], codes, refl}
 use Rattle.std.proofs.Common.{arith}
-use Rattle.liftcore.specs.Schedule.{HasFault, IsGoodLine}
+use Rattle.liftcore.specs.Schedule.{HasScheduleFault, IsGoodScheduleLine}
 use Rattle.liftcore.specs.declared.error.ScheduleFault.TheVariants.{NoSuchVertex, NoSuchWorker}
 use Rattle.liftcore.specs.declared.event.Event.TheVariants.{Raise, Take}
 
 -- raise 1, where there are two workers and five vertices
-raise_1 : IsGoodLine 2 5 (codes "raise 1") (Raise 1)
+raise_1 : IsGoodScheduleLine 2 5 (codes "raise 1") (Raise 1)
 raise_1 = record {
   spelled = (codes "1" ∷ [], ((refl, refl), tt), refl);
   within = record { worker = omega arith; vertex = tt };
 }
 
 -- the workers are 0 and 1
-no_worker : HasFault 2 5 (codes "raise 1" ++ 10 ∷ (codes "take 2 0" ++ 10 ∷ [])) NoSuchWorker 2
+no_worker : HasScheduleFault 2 5 (codes "raise 1" ++ 10 ∷ (codes "take 2 0" ++ 10 ∷ [])) NoSuchWorker 2
 no_worker = record {
   front = codes "raise 1" ∷ [];
   line = codes "take 2 0";
@@ -26,7 +26,7 @@ no_worker = record {
 }
 
 -- the vertices are 0 to 4, and the last line may lack its end
-no_vertex : HasFault 2 5 (codes "take 1 5") NoSuchVertex 1
+no_vertex : HasScheduleFault 2 5 (codes "take 1 5") NoSuchVertex 1
 no_vertex = record {
   front = [];
   line = codes "take 1 5";

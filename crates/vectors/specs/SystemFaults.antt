@@ -3,13 +3,13 @@ use Rattle.std.specs.Prelude.{ℕ, ◌+◌, ◌≤◌, List, [], ◌∷◌, ◌+
 use Rattle.std.proofs.Common.{arith, inl, inr, ap}
 use Rattle.std.proofs.lemmas.List.{length-append}
 use Rattle.text.specs.Text.{IsNumeral, IsSpaced}
-use Rattle.lts.specs.Aut.{IsHeader, IsTransition, HasFault}
+use Rattle.lts.specs.Aut.{IsAutHeader, IsTransition, HasAutFault}
 use Rattle.systems.specs.System.{Arrow}
 use Rattle.lts.specs.declared.error.AutFault.TheVariants.{BadHeader, BadLine, OverLimit, NoSuchState, WrongCount, BadStates, BadLabel}
 use Rattle.vectors.specs.Systems.{arrow, two_states_header, line_a}
 
 -- the two-state system without its last line: a line is missing at line 3
-missing_line : HasFault (codes "des (0,2,2)" ++ 10 ∷ (codes "(0," ++ 34 ∷ codes "a" ++ 34 ∷ codes ",1)" ++ 10 ∷ [])) WrongCount 3
+missing_line : HasAutFault (codes "des (0,2,2)" ++ 10 ∷ (codes "(0," ++ 34 ∷ codes "a" ++ 34 ∷ codes ",1)" ++ 10 ∷ [])) WrongCount 3
 missing_line =
     inr (
       codes "des (0,2,2)",
@@ -35,11 +35,11 @@ missing_line =
     )
 
 -- the empty text has no header
-no_header : HasFault [] BadHeader 1
+no_header : HasAutFault [] BadHeader 1
 no_header = inl (λ first rest i m n e h. cc, refl)
 
 -- des (0,0,0)
-header_of_none : IsHeader (codes "des (0,0,0)") 0 0 0
+header_of_none : IsAutHeader (codes "des (0,0,0)") 0 0 0
 header_of_none = (
   codes "0",
   codes "0",
@@ -74,7 +74,7 @@ header_of_none = (
   ),
 )
 
-no_states : HasFault (codes "des (0,0,0)") BadStates 1
+no_states : HasAutFault (codes "des (0,0,0)") BadStates 1
 no_states = inl ((codes "des (0,0,0)", [], 0, 0, 0, refl, header_of_none, omega arith, omega arith, omega arith), refl)
 
 -- a target that is no state, at line 2
@@ -112,7 +112,7 @@ line_far = (
   ),
 )
 
-no_such_state : HasFault (codes "des (0,2,2)" ++ 10 ∷ (codes "(0," ++ 34 ∷ codes "a" ++ 34 ∷ codes ",2)" ++ 10 ∷ [])) NoSuchState 2
+no_such_state : HasAutFault (codes "des (0,2,2)" ++ 10 ∷ (codes "(0," ++ 34 ∷ codes "a" ++ 34 ∷ codes ",2)" ++ 10 ∷ [])) NoSuchState 2
 no_such_state =
     inr (
       codes "des (0,2,2)",
@@ -155,7 +155,7 @@ eight line a (s, t, source, target, quotes, h) =
     omega (arith, q, some_digit s a.source source, some_digit t a.target target, length-append a.label (34 ∷ []))
 
 -- the two-state system, its last line cut short: that line is no transition
-cut_short : HasFault (codes "des (0,2,2)" ++ 10 ∷ (codes "(0," ++ 34 ∷ codes "a" ++ 34 ∷ codes ",1)" ++ 10 ∷ (codes "(1," ++ 34 ∷ codes "b"))) BadLine 3
+cut_short : HasAutFault (codes "des (0,2,2)" ++ 10 ∷ (codes "(0," ++ 34 ∷ codes "a" ++ 34 ∷ codes ",1)" ++ 10 ∷ (codes "(1," ++ 34 ∷ codes "b"))) BadLine 3
 cut_short =
     inr (
       codes "des (0,2,2)",
@@ -183,7 +183,7 @@ cut_short =
     )
 
 -- des (0,0,1000001)
-header_of_too_many : IsHeader (codes "des (0,0,1000001)") 0 0 1000001
+header_of_too_many : IsAutHeader (codes "des (0,0,1000001)") 0 0 1000001
 header_of_too_many = (
   codes "0",
   codes "0",
@@ -218,7 +218,7 @@ header_of_too_many = (
   ),
 )
 
-too_many_states : HasFault (codes "des (0,0,1000001)") OverLimit 1
+too_many_states : HasAutFault (codes "des (0,0,1000001)") OverLimit 1
 too_many_states = inl ((codes "des (0,0,1000001)", [], 0, 0, 1000001, refl, header_of_too_many, inr (omega arith)), refl)
 
 -- (0,"",2): a transition's line, though its label is none and its target no state
@@ -257,7 +257,7 @@ line_without_label = (
 )
 
 -- the label's fault comes before the target's
-no_label : HasFault (codes "des (0,2,2)" ++ 10 ∷ (codes "(0," ++ 34 ∷ 34 ∷ codes ",2)")) BadLabel 2
+no_label : HasAutFault (codes "des (0,2,2)" ++ 10 ∷ (codes "(0," ++ 34 ∷ 34 ∷ codes ",2)")) BadLabel 2
 no_label =
     inr (
       codes "des (0,2,2)",

@@ -2,11 +2,11 @@
 use Rattle.std.specs.Prelude.{◌≡◌, ℕ, true, false, List, [], ◌∷◌, ◌++◌, length, Some, None, codes, refl}
 use Rattle.std.proofs.Common.{arith}
 use Rattle.text.specs.Text.{lines, is_blank, is_name, IsNumeral, is_numeral}
-use Rattle.systems.specs.Label.{is_label, reading}
+use Rattle.systems.specs.Label.{is_label, multi_action_of}
 use Rattle.systems.specs.System.{Arrow, System, IsSystem, set_of}
 use Rattle.std.specs.Fmt.{digits}
 use Rattle.lts.specs.Canon.{aut_text}
-use Rattle.lts.specs.Aut.{IsAut, IsHeader, IsTransition}
+use Rattle.lts.specs.Aut.{IsAut, IsAutHeader, IsTransition}
 
 abbrev pub arrow : ℕ → List ℕ → ℕ → Arrow
 arrow s l t = record { source = s; label = l; target = t }
@@ -24,19 +24,19 @@ names = (refl, refl, refl, refl)
 labels : (is_label (codes "r(1)") ≡ true) × (is_label [] ≡ false) × (is_label (34 ∷ []) ≡ false) × (is_label (9 ∷ []) ≡ false)
 labels = (refl, refl, refl, refl)
 
-v_reading : reading (codes "b|a") ≡ Some (codes "a" ∷ codes "b" ∷ [])
+v_reading : multi_action_of (codes "b|a") ≡ Some (codes "a" ∷ codes "b" ∷ [])
 v_reading = refl
 
-v_opaque : reading (codes "r(1)") ≡ None
+v_opaque : multi_action_of (codes "r(1)") ≡ None
 v_opaque = refl
 
-v_tau : reading (codes "tau") ≡ Some []
+v_tau : multi_action_of (codes "tau") ≡ Some []
 v_tau = refl
 
-v_tau_bar : reading (codes "a|tau") ≡ None
+v_tau_bar : multi_action_of (codes "a|tau") ≡ None
 v_tau_bar = refl
 
-v_twice : reading (codes "a|a") ≡ Some (codes "a" ∷ codes "a" ∷ [])
+v_twice : multi_action_of (codes "a|a") ≡ Some (codes "a" ∷ codes "a" ∷ [])
 v_twice = refl
 
 -- the two-state system: des (0,2,2), (0,"a",1), (1,"b",0)
@@ -63,7 +63,7 @@ set_of_three = refl
 v_two_states_lines : length (lines two_states_text) ≡ 3
 v_two_states_lines = refl
 
-pub two_states_header : IsHeader (codes "des (0,2,2)") 0 2 2
+pub two_states_header : IsAutHeader (codes "des (0,2,2)") 0 2 2
 two_states_header = (
   codes "0",
   codes "2",

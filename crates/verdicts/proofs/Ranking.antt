@@ -5,11 +5,11 @@ use Rattle.calculus.specs.Admitted.{IsAdmitted}
 use Rattle.calculus.specs.Meaning.{MarksOf}
 use Rattle.calculus.specs.Tree.{Formula}
 use Rattle.systems.specs.System.{IsSystem, System}
-use Rattle.normal.specs.declared.limits.TheConstants.{GREATEST_PRIORITY, MOST_NODES}
-use Rattle.normal.specs.declared.priorities.Priorities.{Priorities}
-use Rattle.normal.specs.Nodes.{Node, greatest_priority}
-use Rattle.normal.specs.Rules.{nodes_with}
-use Rattle.normal.specs.Tree.{node_count}
+use Rattle.forms.specs.declared.limits.TheConstants.{GREATEST_PRIORITY, MOST_NODES}
+use Rattle.forms.specs.declared.priorities.Priorities.{Priorities}
+use Rattle.forms.specs.Nodes.{Node, greatest_node_priority}
+use Rattle.forms.specs.Rules.{nodes_with}
+use Rattle.forms.specs.Tree.{node_count}
 use Rattle.game.specs.declared.limits.TheConstants.{MOST_VERTICES}
 use Rattle.game.specs.Arena.{arena, place}
 use Rattle.game.specs.Wins.{Wins}
@@ -41,7 +41,7 @@ won l ns marks m = record {
 }
 
 ranked : (rule : Priorities) (board : BoardKind) (l : System) (f : Formula) (marks : List Bool) → ChosenIsAdmissible → EvenWinsFormula
-    → IsSystem l → IsAdmitted f → board ≢ Packed → node_count f ≤ MOST_NODES → greatest_priority (nodes_with rule f) ≤ GREATEST_PRIORITY
+    → IsSystem l → IsAdmitted f → board ≢ Packed → node_count f ≤ MOST_NODES → greatest_node_priority (nodes_with rule f) ≤ GREATEST_PRIORITY
     → 2 + l.states * length (nodes_with rule f) ≤ MOST_VERTICES
     → MarksOf l.states marks (λ s. Wins (arena l (nodes_with rule f)) (place (length (nodes_with rule f)) s 0))
     → AreMarks (ByGame rule (Some board)) l f marks
@@ -55,7 +55,7 @@ ranked rule board l f marks chosen wins is admitted n few low vertices m =
 
 -- What is known of the winners in the arena of these nodes, which are those of the rule.
 pub ranked_by : (rule : Priorities) (board : BoardKind) (l : System) (f : Formula) (ns : List Node) (marks : Option (Vec Bool Global)) → ChosenIsAdmissible
-    → EvenWinsFormula → IsSystem l → IsAdmitted f → (board ≡ Packed → ⊥) → node_count f ≤ MOST_NODES → greatest_priority (nodes_with rule f) ≤ GREATEST_PRIORITY
+    → EvenWinsFormula → IsSystem l → IsAdmitted f → (board ≡ Packed → ⊥) → node_count f ≤ MOST_NODES → greatest_node_priority (nodes_with rule f) ≤ GREATEST_PRIORITY
     → ns ≡ nodes_with rule f → IfSome marks (λ m. 2 + l.states * length ns ≤ MOST_VERTICES)
     → IfSome marks (λ m. MarksOf l.states m.items (λ s. Wins (arena l ns) (place (length ns) s 0)))
     → IfSome marks (λ m. AreMarks (ByGame rule (Some board)) l f m.items)

@@ -1,20 +1,17 @@
 -- The vertices of the states with the root node.
-use Rattle.std.proofs.Common.{◌≡◌, ◌+◌, ◌*◌, ◌<◌, ◌≤◌, ℕ, Bool, false, List, [], ◌∷◌, ◌++◌, length, Some, get_or, refl, sym, ap, ◌∙◌, subst, inl, inr}
-use Rattle.std.proofs.Common.{length-append, arith}
+use Rattle.std.proofs.Common.{◌≡◌, ◌*◌, ◌<◌, ◌≤◌, ℕ, Bool, List, length, Some, refl, sym, ap, ◌∙◌, subst}
+use Rattle.std.proofs.Common.{arith}
 use Rattle.std.specs.Prelude.{IsTrue, ◌↔◌, option_map}
 use Rattle.std.proofs.Math.Nat.{mul-lt-mul_of_pos_right}
 use Rattle.game.specs.Game.{Game, IsGame}
 use Rattle.game.specs.Arena.{arena, place, place_in}
 use Rattle.game.specs.Wins.{Wins}
-use Rattle.std.proofs.Math.ListN.{get_or-append}
-use Rattle.std.proofs.Math.Seq.{get_or-append_seam}
-use Rattle.std.proofs.lemmas.Bool.{cases_order}
 use Rattle.calculus.specs.Meaning.{marked, MarksOf, Satisfies}
 use Rattle.calculus.specs.Tree.{Formula}
 use Rattle.calculus.specs.Admitted.{IsAdmitted}
 use Rattle.systems.specs.System.{System, IsSystem}
-use Rattle.normal.specs.Tree.{normal_form}
-use Rattle.normal.specs.Nodes.{Node}
+use Rattle.forms.specs.Tree.{normal_form}
+use Rattle.forms.specs.Nodes.{Node}
 use Rattle.laws.specs.Admissible.{IsNodes}
 use Rattle.laws.specs.Laws.{EvenWinsFormula}
 use Rattle.requests.specs.Roots.{HasRoots, WinsRoot}
@@ -32,21 +29,6 @@ root_below states s v g is (nodes, some, named) h at =
     let size = is.named states nodes named in
     let room : s * nodes < states * nodes = mul-lt-mul_of_pos_right h some in
     omega (arith, e, size, room)
-
--- the marks of one state more
-pub marks_more : (n : ℕ) (marks : List Bool) (mark : Bool) (P : ℕ → Type 0) → MarksOf n marks P → IsTrue mark ↔ P n → MarksOf (n + 1) (marks ++ mark ∷ []) P
-marks_more n marks mark P m here = record { count = omega (arith, m.count, length-append marks (mark ∷ [])); exact = at }
-  where
-    at : (s : ℕ) → s < n + 1 → marked (marks ++ mark ∷ []) s ↔ P s
-    at s h = elim (cases_order s n) [
-      | inl e ↦ let seam : get_or (marks ++ mark ∷ []) s false
-          ≡ mark = subst (λ k. get_or (marks ++ mark ∷ []) k false ≡ mark) (m.count ∙ sym e) (get_or-append_seam marks mark [] false) in
-          subst (λ b. IsTrue b ↔ P s) (sym seam) (subst (λ k. IsTrue mark ↔ P k) (sym e) here)
-      | inr w ↦ elim w [
-        | inl lt ↦ subst (λ b. IsTrue b ↔ P s) (sym (get_or-append marks (mark ∷ []) false s (omega (arith, m.count, lt)))) (m.exact s lt)
-        | inr gt ↦ absurd (omega (arith, h, gt))
-      ]
-    ]
 
 -- that Even wins a state's vertex with the root node
 pub wins_root : (s v : ℕ) (g : Game) (mark : Bool) → place_in g s 0 ≡ Some v → IsTrue mark ↔ Wins g v → IsTrue mark ↔ WinsRoot g s

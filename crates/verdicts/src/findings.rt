@@ -19,11 +19,11 @@ use claims::claimed::Claims;
 use evidence::error::EvidenceError;
 use evidence::evidence::Evidence;
 use evidence::make::odd_evidence_by;
+use forms::priorities::Priorities;
 use game::graph::Game;
 use measures::guess::solve_one_by;
 use measures::observer::{Observer, Silent, Stage};
 use measures::table::Settled;
-use normal::priorities::Priorities;
 use requests::arena::arena_of;
 use requests::error::MuError;
 use requests::request::Options;
@@ -358,7 +358,7 @@ pub(crate) fn find_solved(
 ///
 /// # Errors
 /// E5.
-pub fn odd_of(alloc: Global, found: &Findings) -> Result<Evidence, EvidenceError>
+pub fn odd_evidence_found(alloc: Global, found: &Findings) -> Result<Evidence, EvidenceError>
     requires { AreFindings found.now }
     ensures game { IfOk result (λ e. e.game ≡ arc_value found.now.solution.game) }
     ensures memory { IfErr result (λ e. e ≡ EvidenceError.Memory) }

@@ -2,8 +2,8 @@
 
 use calculus::closed::Closed;
 use claims::claimed::Claims;
+use forms::priorities::Priorities;
 use normal::make::normal_with;
-use normal::priorities::Priorities;
 use std::alloc::Global;
 use systems::system::Lts;
 

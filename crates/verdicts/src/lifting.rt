@@ -13,12 +13,12 @@ ghost use Rattle.workers.specs.declared.team.BoardKind.{BoardKind};
 ghost use Rattle.verdicts.specs.Findings.{AreWinnersOf, IsSolutionOf};
 
 use calculus::closed::Closed;
+use forms::priorities::Priorities;
 use game::graph::Game;
 use laws::{chosen_is_admissible, even_wins_where_meant};
 use lts::system::Lts;
 use measures::settle::even_wins;
 use measures::table::Settled;
-use normal::priorities::Priorities;
 use requests::error::MuError;
 use std::alloc::{AllocError, Global};
 use std::sync::Arc;

@@ -4,7 +4,7 @@ ghost use Rattle.std.specs.Prelude.{◌≡◌, IfOk, IfErr, IfSome, MatchResult}
 ghost use Rattle.std.specs.Arc.{arc_value};
 ghost use Rattle.verdicts.specs.Findings.{AreFindings, AreOddsOf, IsEvens, IsPairOf};
 
-use crate::findings::{Findings, odd_of};
+use crate::findings::{Findings, odd_evidence_found};
 use certify::pair::EvidencePair;
 use evidence::error::EvidenceError;
 use evidence::evidence::Evidence;
@@ -28,7 +28,7 @@ fn odds(alloc: Global, found: &Findings) -> Result<Evidence, EvidenceError>
     requires { AreFindings found.now }
     ensures { AreOddsOf (arc_value found.now.solution.game) result }
 {
-    match odd_of(alloc, found) {
+    match odd_evidence_found(alloc, found) {
         Ok(evidence) => Ok(evidence),
         Err(error) => Err(error),
     }

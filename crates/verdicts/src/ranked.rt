@@ -3,7 +3,7 @@
 ghost use Rattle.std.specs.Prelude.{◌≡◌, ◌+◌, ◌*◌, ◌≤◌, ◌↔◌, IfSome, IsTrue, Some, length};
 ghost use Rattle.calculus.specs.Closed.{closed_formula};
 ghost use Rattle.calculus.specs.Meaning.{MarksOf};
-ghost use Rattle.normal.specs.Normal.{normal_nodes};
+ghost use Rattle.forms.specs.Normal.{normal_nodes};
 ghost use Rattle.game.specs.declared.limits.TheConstants.{MOST_VERTICES};
 ghost use Rattle.game.specs.Arena.{arena, place};
 ghost use Rattle.game.specs.Wins.{Wins};
@@ -11,11 +11,11 @@ ghost use Rattle.requests.specs.Check.{AreMarks, ByGame};
 
 use calculus::closed::Closed;
 use certify::hands::hands;
+use forms::form::Normal;
 use guess::ranks::columns;
 use laws::{chosen_is_admissible, even_wins_where_meant};
 use lts::system::Lts;
 use measures::observer::{Observer, Stage};
-use normal::form::Normal;
 use normal::make::normal_with;
 use rankings::sheet::Sheet;
 use rankings::winners::root_winners;

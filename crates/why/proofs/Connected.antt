@@ -12,9 +12,9 @@ use Rattle.systems.specs.Path.{IsPath}
 use Rattle.systems.specs.System.{Arrow, IsSystem, System}
 use Rattle.calculus.specs.Holds.{holds}
 use Rattle.calculus.specs.Tree.{Action, Formula}
-use Rattle.normal.specs.Form.{IsForm, IsNode, IsShape}
-use Rattle.normal.specs.Nodes.{Node}
-use Rattle.normal.specs.Tree.{Shape, ConstantNode, JunctionNode, ModalityNode, FixpointNode, VariableNode}
+use Rattle.forms.specs.Form.{IsForm, IsNode, IsShape}
+use Rattle.forms.specs.Nodes.{Node}
+use Rattle.forms.specs.Tree.{Shape, ConstantNode, JunctionNode, ModalityNode, FixpointNode, VariableNode}
 use Rattle.game.specs.Arena.{arena, is_step, place, successors_of, targets, vertex_of}
 use Rattle.game.specs.Game.{Vertex, vertex}
 use Rattle.game.proofs.Arenas.{rows_count}

@@ -5,8 +5,8 @@ use Rattle.std.specs.Prelude.{not, option_map, if◌then◌else◌}
 use Rattle.std.proofs.lemmas.Bool.{le-ltb}
 use Rattle.systems.specs.System.{System}
 use Rattle.calculus.specs.Tree.{Action}
-use Rattle.normal.specs.Nodes.{Node}
-use Rattle.normal.specs.Tree.{Shape, ConstantNode, JunctionNode, ModalityNode, FixpointNode, VariableNode}
+use Rattle.forms.specs.Nodes.{Node}
+use Rattle.forms.specs.Tree.{Shape, ConstantNode, JunctionNode, ModalityNode, FixpointNode, VariableNode}
 use Rattle.game.specs.Arena.{arena, or_else, place, place_in, successors_of, targets, vertex_of}
 use Rattle.game.specs.Game.{Game, vertex}
 use Rattle.laws.proofs.Vertices.{node_in, vertex_is}

@@ -9,7 +9,7 @@ use Rattle.text.specs.Wrote.{lines_from}
 use Rattle.laws.proofs.Flags.{cases}
 use Rattle.laws.proofs.Lists.{all_gives, gives_all, gives_range, range_gives}
 use Rattle.witness.proofs.Keeping.{none_pass, one_passes}
-use Rattle.why.specs.Mentions.{close, covers, has_like, is_begun, is_mentioned, joined_numbers, lead, mention, mentions}
+use Rattle.why.specs.Mentions.{closing_text, covers, has_like, is_begun, is_mentioned, joined_numbers, lead, mention, mentions}
 
 module _ (front end : List ℕ) (p : ℕ → Bool) (name : ℕ → List ℕ) where
   abbrev before : ℕ → Bool
@@ -47,14 +47,14 @@ module _ (front end : List ℕ) (p : ℕ → Bool) (name : ℕ → List ℕ) whe
 
   -- where none is named yet
   text_from : (i n : ℕ) → ((k : ℕ) → k < i → p k ≡ false)
-      → lines_from text i n ++ close end (before (i + n)) ≡ whole (filter p (range_with_len i n))
-  text_from i zero none = ap (close end) (none_pass p (i + 0) (λ k h. none k (omega (arith, h))))
+      → lines_from text i n ++ closing_text end (before (i + n)) ≡ whole (filter p (range_with_len i n))
+  text_from i zero none = ap (closing_text end) (none_pass p (i + 0) (λ k h. none k (omega (arith, h))))
   text_from i (suc n) none = elim (cases (p i)) [
     | inl q ↦ (
         let ks = filter p (range_with_len (i + 1) n) in
         let first = text_there i false q (none_pass p i none) in
         let rest = text_on (i + 1) n i (omega arith) q in
-        let ended = ap (close end) (one_passes p (i + suc n) i (omega arith) q) in
+        let ended = ap (closing_text end) (one_passes p (i + suc n) i (omega arith) q) in
         ap₂ (λ a b. a ++ b) (ap₂ (λ a b. a ++ b) first rest) ended
         ∙ (append_assoc (front ++ name i) (others ks) end
         ∙ (append_assoc front (name i) (others ks ++ end)
@@ -62,7 +62,7 @@ module _ (front end : List ℕ) (p : ℕ → Bool) (name : ℕ → List ℕ) whe
     | inr q ↦ (
         let so_far : (k : ℕ) → k < i + 1 → p k ≡ false = λ k h. below_next i k none q h in
         let same : i + suc n ≡ (i + 1) + n = omega arith in
-        ap₂ (λ a b. a ++ b) (ap (λ a. a ++ lines_from text (i + 1) n) (text_none i q)) (ap (λ m. close end (before m)) same)
+        ap₂ (λ a b. a ++ b) (ap (λ a. a ++ lines_from text (i + 1) n) (text_none i q)) (ap (λ m. closing_text end (before m)) same)
         ∙ (text_from (i + 1) n so_far ∙ ap whole (sym (kept i (range_with_len (i + 1) n) false q))))
   ]
     where
@@ -77,18 +77,18 @@ module _ (front end : List ℕ) (p : ℕ → Bool) (name : ℕ → List ℕ) whe
 
 -- what is written of all numbers, and behind them
 pub mentions_are : (front end : List ℕ) (passes : ℕ → Bool) (same : ℕ → ℕ → Bool) (text : ℕ → List ℕ) (n : ℕ)
-    → lines_from (mention front passes same text) 0 n ++ close end (is_begun passes same n) ≡ mentions front end passes same text n
+    → lines_from (mention front passes same text) 0 n ++ closing_text end (is_begun passes same n) ≡ mentions front end passes same text n
 mentions_are front end passes same text n =
     let all : n ≡ 0 + n = omega arith in
-    ap (λ m. lines_from (mention front passes same text) 0 n ++ close end (is_begun passes same m)) all
+    ap (λ m. lines_from (mention front passes same text) 0 n ++ closing_text end (is_begun passes same m)) all
     ∙ text_from front end (is_mentioned passes same) text 0 n (λ k h. absurd (omega (arith, h)))
 
 -- the same by what the program has at hand
 pub mentions_by : (front end back : List ℕ) (passes : ℕ → Bool) (same : ℕ → ℕ → Bool) (text : ℕ → List ℕ) (n count : ℕ) (begun : Bool)
-    → back ≡ close end begun → begun ≡ is_begun passes same count → count ≡ n
+    → back ≡ closing_text end begun → begun ≡ is_begun passes same count → count ≡ n
     → lines_from (mention front passes same text) 0 n ++ back ≡ mentions front end passes same text n
 mentions_by front end back passes same text n count begun ee eb en =
-    ap (λ m. lines_from (mention front passes same text) 0 n ++ m) (ee ∙ ap (close end) (eb ∙ ap (is_begun passes same) en))
+    ap (λ m. lines_from (mention front passes same text) 0 n ++ m) (ee ∙ ap (closing_text end) (eb ∙ ap (is_begun passes same) en))
     ∙ mentions_are front end passes same text n
 
 pub mention_is : (front before : List ℕ) (passes : ℕ → Bool) (same : ℕ → ℕ → Bool) (text : ℕ → List ℕ) (k : ℕ) (begun : Bool)

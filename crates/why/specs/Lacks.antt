@@ -3,10 +3,10 @@ use Rattle.std.specs.Prelude.{ℕ, Bool, true, false, ◌&&◌, List, [], ◌∷
 use Rattle.systems.specs.System.{System}
 use Rattle.calculus.specs.Tree.{Action}
 use Rattle.calculus.specs.Canon.{action_text}
-use Rattle.normal.specs.Nodes.{Node}
-use Rattle.normal.specs.Tree.{Shape, ModalityNode}
+use Rattle.forms.specs.Nodes.{Node}
+use Rattle.forms.specs.Tree.{Shape, ModalityNode}
 use Rattle.game.specs.Arena.{place, targets}
-use Rattle.why.specs.Actions.{is_same}
+use Rattle.why.specs.Actions.{is_same_action}
 use Rattle.why.specs.Mentions.{mentions}
 
 -- the action formula of a modality
@@ -37,7 +37,7 @@ is_lacking l nodes set s k = is_barred l s (action_at nodes k) && set (place (le
 abbrev pub are_same_actions : Option Action → Option Action → Bool
 are_same_actions None other = false
 are_same_actions (Some a) None = false
-are_same_actions (Some a) (Some b) = is_same a b
+are_same_actions (Some a) (Some b) = is_same_action a b
 
 -- The nodes of these numbers are modalities of the same action formula.
 abbrev pub have_same_action : List Node → (node other : ℕ) → Bool

@@ -34,8 +34,8 @@ abbrev pub lead : (front : List ℕ) → (begun : Bool) → List ℕ
 lead front begun = if begun then codes " or " else front
 
 -- what stands behind all of them, where there are some
-abbrev pub close : (end : List ℕ) → (begun : Bool) → List ℕ
-close end begun = if begun then end else []
+abbrev pub closing_text : (end : List ℕ) → (begun : Bool) → List ℕ
+closing_text end begun = if begun then end else []
 
 -- what is written of a number
 abbrev pub mention : (front : List ℕ) → (passes : ℕ → Bool) → (have_same : ℕ → ℕ → Bool) → (text : ℕ → List ℕ) → (number : ℕ) → List ℕ

@@ -1,8 +1,8 @@
 -- What is remarked of states and steps, by what the program has at hand.
 use Rattle.std.specs.Prelude.{ℕ, Bool, false, List, [], ◌∷◌, Option, Some, None, nat_lt}
 use Rattle.systems.specs.System.{System}
-use Rattle.normal.specs.Normal.{normal_nodes}
-use Rattle.normal.specs.Nodes.{Node}
+use Rattle.forms.specs.Normal.{normal_nodes}
+use Rattle.forms.specs.Nodes.{Node}
 use Rattle.game.specs.Game.{Vertex}
 use Rattle.witness.specs.Walk.{is_marked}
 use Rattle.why.specs.Remarks.{Remarks, remarks}

@@ -1,7 +1,7 @@
 -- What is remarked of states and steps, beside the lines that tell them.
 use Rattle.std.specs.Prelude.{ℕ, Bool, List, Option}
 use Rattle.systems.specs.System.{Arrow, System}
-use Rattle.normal.specs.Nodes.{Node}
+use Rattle.forms.specs.Nodes.{Node}
 use Rattle.why.specs.Lacks.{lack_text}
 use Rattle.why.specs.Stakes.{stake_text}
 

@@ -3,8 +3,8 @@ use Rattle.std.specs.Prelude.{List}
 use Rattle.systems.specs.Numbered.{IsInside, Numbered, system_with}
 use Rattle.systems.specs.declared.system.Transition.{Transition}
 use Rattle.calculus.specs.Tree.{Formula}
-use Rattle.normal.specs.Form.{IsForm}
-use Rattle.normal.specs.Nodes.{Node}
+use Rattle.forms.specs.Form.{IsForm}
+use Rattle.forms.specs.Nodes.{Node}
 use Rattle.witness.specs.Witness.{IsShown}
 
 -- They show why some formula holds at the initial state, or doesn't, by the game of a normal form's nodes.

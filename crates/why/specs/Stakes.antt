@@ -7,10 +7,10 @@ use Rattle.systems.specs.declared.system.Transition.{Transition}
 use Rattle.calculus.specs.Tree.{Action}
 use Rattle.calculus.specs.Canon.{action_text}
 use Rattle.calculus.specs.Holds.{holds}
-use Rattle.normal.specs.Nodes.{Node}
-use Rattle.normal.specs.Tree.{Shape, ModalityNode}
+use Rattle.forms.specs.Nodes.{Node}
+use Rattle.forms.specs.Tree.{Shape, ModalityNode}
 use Rattle.game.specs.Arena.{place}
-use Rattle.why.specs.Actions.{is_same}
+use Rattle.why.specs.Actions.{is_same_action}
 use Rattle.why.specs.Mentions.{covers, mentions}
 
 -- The play stands at the node at the step's source and reaches the child at its target, and the action formula holds of its label.
@@ -31,8 +31,8 @@ is_stake nodes set step k = is_step_taken_at (length nodes) set step k (slice_ge
 
 -- two diamonds or two boxes of the same action formula
 abbrev pub are_alike : Shape → Shape → Bool
-are_alike (ModalityNode true a child) (ModalityNode true b other) = is_same a b
-are_alike (ModalityNode false a child) (ModalityNode false b other) = is_same a b
+are_alike (ModalityNode true a child) (ModalityNode true b other) = is_same_action a b
+are_alike (ModalityNode false a child) (ModalityNode false b other) = is_same_action a b
 are_alike _ _ = false
 
 abbrev pub are_same_nodes : Option Node → Option Node → Bool

@@ -5,7 +5,7 @@ ghost use Rattle.std.specs.Cmp.Lexicographic.{pointwise};
 ghost use Rattle.std.specs.Str.{bytes_eq};
 ghost use Rattle.systems.specs.Label.{texts};
 ghost use Rattle.calculus.specs.View.{action_of};
-ghost use Rattle.why.specs.Actions.{is_same as is_same_action};
+ghost use Rattle.why.specs.Actions.{is_same_action as is_same_action};
 
 use calculus::tree::Act;
 

@@ -3,8 +3,8 @@
 ghost use Rattle.std.specs.Prelude.{◌≡◌, ◌<◌, length, option_map};
 ghost use Rattle.text.specs.Wrote.{Wrote};
 ghost use Rattle.calculus.specs.View.{action_of};
-ghost use Rattle.normal.specs.Normal.{normal_nodes};
-ghost use Rattle.normal.specs.View.{shape_of};
+ghost use Rattle.forms.specs.Normal.{normal_nodes};
+ghost use Rattle.forms.specs.View.{shape_of};
 ghost use Rattle.game.specs.Game.{vertex};
 ghost use Rattle.why.specs.Lacks.{action_at as action_of_number, action_in, have_same_action as have_same_actions, is_lacking as is_lacking_at, name_at};
 ghost use Rattle.why.specs.Naming.{is_stuck as is_stuck_in, nodes_in, remarks_in, set_in, system_in};
@@ -14,9 +14,9 @@ use crate::mentions::{Mentions, put_mentions};
 use crate::reached::{Reached, is_marked};
 use calculus::put_action;
 use calculus::tree::Act;
+use forms::form::Normal;
+use forms::node::Kind;
 use game::graph::Game;
-use normal::form::Normal;
-use normal::node::Kind;
 use text::WriteFault;
 use text::sink::Sink;
 

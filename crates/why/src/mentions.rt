@@ -2,7 +2,7 @@
 
 ghost use Rattle.std.specs.Prelude.{◌≡◌, ◌<◌, ◌≤◌, ℕ, Bool, List};
 ghost use Rattle.text.specs.Wrote.{Wrote};
-ghost use Rattle.why.specs.Mentions.{close as close_of, covers as covers_of, has_like as has_like_of, is_begun as is_begun_of};
+ghost use Rattle.why.specs.Mentions.{closing_text as close_of, covers as covers_of, has_like as has_like_of, is_begun as is_begun_of};
 ghost use Rattle.why.specs.Mentions.{is_mentioned as is_mentioned_of, lead as lead_of, mention, mentions as mentions_of};
 
 use text::sink::Sink;

@@ -1,13 +1,13 @@
 // What a play reaches.
 
 ghost use Rattle.std.specs.Prelude.{◌≡◌};
-ghost use Rattle.normal.specs.Normal.{normal_nodes};
+ghost use Rattle.forms.specs.Normal.{normal_nodes};
 ghost use Rattle.game.specs.Arena.{arena};
 ghost use Rattle.witness.specs.Walk.{is_marked as is_marked_in};
 
+use forms::form::Normal;
 use game::graph::Game;
 use lts::Lts;
-use normal::form::Normal;
 
 /// Which vertices a play reaches, in the game of a system and a normal form.
 #[derive(Clone, Copy)]

@@ -5,7 +5,7 @@ ghost use Rattle.systems.specs.Numbered.{IsTransitionOf, arrow_of};
 ghost use Rattle.text.specs.Wrote.{Wrote};
 ghost use Rattle.calculus.specs.Canon.{action_text};
 ghost use Rattle.calculus.specs.View.{action_of};
-ghost use Rattle.normal.specs.View.{shape_of};
+ghost use Rattle.forms.specs.View.{shape_of};
 ghost use Rattle.why.specs.Naming.{nodes_in, remarks_in, set_in};
 ghost use Rattle.why.specs.Stakes.{IsTransitionOf-prop, are_alike as are_alike_shapes, is_as_before as is_as_before_in, is_step_taken as is_taken_in, modality_text};
 
@@ -14,8 +14,8 @@ use crate::mentions::{Mentions, covers, put_mentions};
 use crate::reached::{Reached, is_marked};
 use calculus::tree::Act;
 use calculus::{holds, put_action};
+use forms::node::Kind;
 use lts::Transition;
-use normal::node::Kind;
 use text::sink::Sink;
 use text::{WriteFault, put};
 

@@ -12,15 +12,15 @@ use Rattle.systems.specs.System.{Arrow}
 use Rattle.systems.specs.Numbered.{Numbered, arrow_of, system_with}
 use Rattle.systems.specs.declared.system.Transition.{Transition}
 use Rattle.systems.proofs.Rows.{filter-map}
-use Rattle.normal.specs.Nodes.{Node}
+use Rattle.forms.specs.Nodes.{Node}
 use Rattle.game.specs.Arena.{place, place_in}
 use Rattle.game.specs.Game.{Game, IsNamed}
-use Rattle.game.specs.Steps.{AreSets, IsSetFor}
+use Rattle.forms.specs.Taken.{AreSets, IsSetFor}
 use Rattle.laws.proofs.Flags.{cases}
 use Rattle.laws.proofs.Lists.{any_gives, gives_any, gives_range, range_gives}
 use Rattle.laws.proofs.Vertices.{node_in}
 use Rattle.evidence.specs.Evidence.{Evidence}
-use Rattle.evidence.specs.Witness.{is_taken, is_taken_at, part_of}
+use Rattle.evidence.specs.Witness.{is_taken, is_taken_at, filtered_system}
 
 -- what holds of all transitions holds of those that are kept
 pub kept_inside : (P : Transition → Type 0) (p : Transition → Bool) (ts : List Transition) → AllByRecursion P ts → AllByRecursion P (filter p ts)
@@ -30,7 +30,7 @@ kept_inside P p (t ∷ ts) h = elim (cases (p t)) [ inl e ↦ rw e (h.0, kept_in
 -- the system with those that pass
 pub kept_system : (l : Numbered) (p : Arrow → Bool) (ts part : List Transition) → map (arrow_of l.labels) ts ≡ l.system.arrows
     → part ≡ filter (λ t. p (arrow_of l.labels t)) ts
-    → system_with l part ≡ part_of p l.system
+    → system_with l part ≡ filtered_system p l.system
 kept_system l p ts part arrows is =
     let same : map (arrow_of l.labels) part ≡ filter p l.system.arrows = ap (map (arrow_of l.labels)) is
     ∙ (sym (filter-map p (arrow_of l.labels) ts) ∙ ap (filter p) arrows) in

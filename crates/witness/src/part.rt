@@ -4,11 +4,11 @@ ghost use Rattle.std.specs.Prelude.{◌≡◌, ◌<◌, false, ℕ, List, Some, 
 ghost use Rattle.systems.specs.Numbered.{IsInside, arrow_of, system_with};
 ghost use Rattle.calculus.specs.Tree.{Formula};
 ghost use Rattle.calculus.specs.Admitted.{IsAdmitted};
-ghost use Rattle.normal.specs.Tree.{normal_form};
-ghost use Rattle.normal.specs.Nodes.{Node};
-ghost use Rattle.normal.specs.Normal.{normal_nodes};
+ghost use Rattle.forms.specs.Tree.{normal_form};
+ghost use Rattle.forms.specs.Nodes.{Node};
+ghost use Rattle.forms.specs.Normal.{normal_nodes};
 ghost use Rattle.game.specs.Arena.{arena};
-ghost use Rattle.game.specs.Steps.{AreSets, IsSetFor};
+ghost use Rattle.forms.specs.Taken.{AreSets, IsSetFor};
 ghost use Rattle.laws.specs.Admissible.{IsNodes};
 ghost use Rattle.evidence.specs.Evidence.{IsGood, entry_at, has as has_entry};
 ghost use Rattle.evidence.specs.Witness.{is_one_player as is_same_player, is_taken as is_taken_from, moves_to as moves_to_target, witness as whole_witness};
@@ -18,12 +18,12 @@ ghost use Rattle.witness.specs.Witness.{IsPlay, IsWitness, root_of};
 
 use crate::walk::reached;
 use evidence::evidence::Evidence;
-use game::build::label_sets;
+use forms::form::Normal;
+use forms::labels::label_sets;
+use forms::node::Kind;
 use game::graph::Game;
 use game::player::Player;
 use lts::{Lts, Transition};
-use normal::form::Normal;
-use normal::node::Kind;
 use std::alloc::Global;
 use text::Memory;
 

@@ -14,5 +14,5 @@ returns-then-are_small c =
       | in_default w ↦ absurd (true≢false (sym c.if-matches.true ∙ w.matches-is))
     ] in
     let both = subst (IsBoth g pair.even.evidence pair.odd.evidence) yes c.check_both-both.ensures.both in
-    pair_full g pair c.canon_spells.ensures c.known.ensures c.requires c.known-2.ensures c.known-3.ensures both.0.0 both.0.1
+    pair_full g pair c.evidence_text_spells.ensures c.known.ensures c.requires c.known-2.ensures c.known-3.ensures both.0.0 both.0.1
     (c.check_both-both.ensures.decides yes) (c.are_small.ensures.even c.if-are_small.true) (c.are_small.ensures.odd c.if-are_small.true)

@@ -5,7 +5,7 @@ use Rattle.std.proofs.lemmas.List.{length-map}
 use Rattle.text.specs.Wrote.{WroteFront}
 use Rattle.text.proofs.Writing.{Wrote-after, Wrote-as, Wrote-err, WroteFront-after, WroteFront-more}
 use Rattle.systems.specs.Numbered.{IsInside, Numbered, arrow_of, system_with}
-use Rattle.normal.specs.Normal.{normal_nodes}
+use Rattle.forms.specs.Normal.{normal_nodes}
 use Rattle.calculus.specs.Closed.{closed_formula}
 use Rattle.why.specs.Story.{AreLinesOf}
 use Rattle.why.specs.declared.line.Line.{Line}

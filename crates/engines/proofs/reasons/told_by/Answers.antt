@@ -1,6 +1,6 @@
 use Rattle.std.proofs.Common.{ap, ◌∙◌}
 use Rattle.calculus.specs.Closed.{closed_formula}
-use Rattle.normal.specs.Rules.{nodes_with}
+use Rattle.forms.specs.Rules.{nodes_with}
 use Rattle.requests.specs.declared.texts.Texts.{Texts}
 use Rattle.engines.proofs.reasons.told_by.Goals as goal
 

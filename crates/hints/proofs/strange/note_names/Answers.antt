@@ -1,11 +1,11 @@
 use Rattle.std.proofs.Common.{map}
-use Rattle.hints.specs.Strange.{term_of}
+use Rattle.hints.specs.Strange.{name_or_atom}
 use Rattle.hints.specs.Noted.{knows}
 use Rattle.hints.proofs.Noting.{names_more}
 use Rattle.hints.proofs.strange.note_names.Goals as goal
 
 pub loop-name-preserved : goal.loop-name-preserved
 loop-name-preserved c =
-    names_more (knows c.args.known.now) (map term_of c.args.found.now.items) (map term_of c.loop-name.found.items)
-    (map term_of c.note.new.found.items) c.args.names.now c.loop-name.name-index c.name-item.result c.as_slice.result.now
+    names_more (knows c.args.known.now) (map name_or_atom c.args.found.now.items) (map name_or_atom c.loop-name.found.items)
+    (map name_or_atom c.note.new.found.items) c.args.names.now c.loop-name.name-index c.name-item.result c.as_slice.result.now
     c.loop-name-test.true c.name-item.is c.as_slice.ensures.value c.loop-name.invariant c.in_ok-note.ensures

@@ -21,7 +21,7 @@ returns-then-not-branch g c =
     counts_go_1 c.in-Some.initial None _ _ _ (rw c.in-Some.is at c.in_ok-initial.ensures)
     (counts_go_2 c.in-Some.initial c.in-Some-2.transitions None _ _ _ (rw c.in-Some-2.is at c.in_ok-transitions.ensures)
     (counts_go_3 c.in-Some.initial c.in-Some-2.transitions c.in-Some-3.states None _ _ _ (rw c.in-Some-3.is at c.in_ok-states.ensures)
-    (end_stops (header_of c.in-Some.initial c.in-Some-2.transitions c.in-Some-3.states) _ _ (rw c.if-not-branch.true at c.in_ok-ends.ensures))))
+    (end_stops (header_of c.in-Some.initial c.in-Some-2.transitions c.in-Some-3.states) _ _ (rw c.if-not-branch.true at c.in_ok-has_ended.ensures))))
 
 pub returns : goal.returns
 returns g c =
@@ -31,4 +31,4 @@ returns g c =
     (rw c.in-Some-2.is at c.in_ok-transitions.ensures)
     (counts_go_3 c.in-Some.initial c.in-Some-2.transitions c.in-Some-3.states
     (Some (header_of c.in-Some.initial c.in-Some-2.transitions c.in-Some-3.states)) _ _ _ (rw c.in-Some-3.is at c.in_ok-states.ensures)
-    (end_comes (header_of c.in-Some.initial c.in-Some-2.transitions c.in-Some-3.states) _ _ (rw c.if-not-branch.false at c.in_ok-ends.ensures))))
+    (end_comes (header_of c.in-Some.initial c.in-Some-2.transitions c.in-Some-3.states) _ _ (rw c.if-not-branch.false at c.in_ok-has_ended.ensures))))

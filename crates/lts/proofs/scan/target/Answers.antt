@@ -12,9 +12,9 @@ returns-in_default g c = target_stops_2 _ _ _ (rw c.if-not-branch.false at c.in_
 pub returns-then-not-branch-2 : goal.returns-then-not-branch-2
 returns-then-not-branch-2 g c =
     target_goes_on c.in-Some.target None _ _ _ _ (rw c.if-not-branch.false at c.in_ok-sign.ensures) (rw c.in-Some.is at c.in_ok-target.ensures)
-    (end_stops c.in-Some.target _ _ (rw c.if-not-branch-2.true at c.in_ok-ends.ensures))
+    (end_stops c.in-Some.target _ _ (rw c.if-not-branch-2.true at c.in_ok-has_ended.ensures))
 
 pub returns : goal.returns
 returns g c =
     target_goes_on c.in-Some.target (Some c.in-Some.target) _ _ _ _ (rw c.if-not-branch.false at c.in_ok-sign.ensures)
-    (rw c.in-Some.is at c.in_ok-target.ensures) (end_comes c.in-Some.target _ _ (rw c.if-not-branch-2.false at c.in_ok-ends.ensures))
+    (rw c.in-Some.is at c.in_ok-target.ensures) (end_comes c.in-Some.target _ _ (rw c.if-not-branch-2.false at c.in_ok-has_ended.ensures))

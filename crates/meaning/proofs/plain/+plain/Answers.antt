@@ -33,10 +33,10 @@ marks_of-returns-in-Known-clause-marks t c =
     let l = c.args.lts.now.system in
     let f = formula_of c.in-Known.field-0.now in
     let right = subst (IsRight l) c.in-Known.is c.requires.right in
-    result_of l (sets_of c.args.environment.now) _ f c.copied.result (λ ms. ms ≡ c.deref.result.now) (ap formula_in c.in-Known.is)
+    result_of l (sets_of c.args.environment.now) _ f c.copied_marks.result (λ ms. ms ≡ c.deref.result.now) (ap formula_in c.in-Known.is)
     (λ ms same. subst (λ ns. MarksOf l.states ns (mean l f (sets_of c.args.environment.now))) (sym (same ∙ c.deref.ensures.value))
     (marks_anywhere l c.states-count.ensures.known f (sets_of c.args.environment.now) c.in-Known.marks.items right.0 right.1))
-    c.copied.ensures
+    c.copied_marks.ensures
 
 pub marks_of-returns-in_ok-one-in-And-clause-marks : goal.marks_of-returns-in_ok-one-in-And-clause-marks
 marks_of-returns-in_ok-one-in-And-clause-marks t c =

@@ -1,16 +1,16 @@
 use Rattle.std.proofs.Common.{◌≡◌, ◌≤◌, ◌<◌, ◌++◌, ℕ, true, List, [], Option, Some, None, MatchOption, is_some, length, vec_len, subst, sym, ap, ◌∙◌, arith}
 use Rattle.calculus.specs.View.{formula_of}
 use Rattle.calculus.specs.Tree.{Formula}
-use Rattle.normal.specs.Tree.{node_count, norm, normal_form}
-use Rattle.normal.specs.Nodes.{nodes_by, greatest_priority}
-use Rattle.normal.specs.Rules.{rule_of, nodes_with}
-use Rattle.normal.specs.Form.{IsForm}
-use Rattle.normal.specs.View.{nodes_of}
+use Rattle.forms.specs.Tree.{node_count, norm, normal_form}
+use Rattle.forms.specs.Nodes.{nodes_by, greatest_node_priority}
+use Rattle.forms.specs.Rules.{rule_of, nodes_with}
+use Rattle.forms.specs.Form.{IsForm}
+use Rattle.forms.specs.View.{nodes_of}
 use Rattle.normal.specs.Surveys.{noted_rule}
 use Rattle.normal.specs.Writes.{Writes}
-use Rattle.normal.specs.declared.node as declared
+use Rattle.forms.specs.declared.node as declared
 use Rattle.normal.specs.declared.write.Preorder.{Preorder}
-use Rattle.normal.specs.declared.priorities.Priorities.{Priorities}
+use Rattle.forms.specs.declared.priorities.Priorities.{Priorities}
 use Rattle.normal.proofs.Counts.{norm_size}
 use Rattle.normal.proofs.Numbers.{is_form}
 use Rattle.normal.proofs.make.normal_with.Goals as goal
@@ -23,7 +23,7 @@ few (Some n) k e h = omega (arith, h.0, h.1)
 pub part-summary-requires-clause-room : goal.part-summary-requires-clause-room
 part-summary-requires-clause-room c =
     let f = formula_of c.tree-tree.result.now in
-    omega (arith, norm_size true (λ _. 0) f 0, few c.count.result (node_count f) c.if-is_none.ensures c.count.ensures)
+    omega (arith, norm_size true (λ _. 0) f 0, few c.counted_nodes.result (node_count f) c.if-is_none.ensures c.counted_nodes.ensures)
 
 pub part-requires : goal.part-requires
 part-requires c =
@@ -32,7 +32,7 @@ part-requires c =
     omega (
       arith,
       norm_size true (λ _. 0) f (vec_len old),
-      few c.count.result (node_count f) c.if-is_none.ensures c.count.ensures,
+      few c.counted_nodes.result (node_count f) c.if-is_none.ensures c.counted_nodes.ensures,
       old.ok.0,
       ap length c.new-preorder.ensures.nodes,
     )
@@ -53,7 +53,7 @@ of-requires c =
     let f = formula_of c.tree-tree.result.now in
     let is = written c.new-survey.result.rule c.args.priorities f c.part-summary.new.self.priorities c.new-preorder.result c.part.new.self
     c.new-survey.ensures c.new-preorder.ensures.nodes c.new-preorder.ensures.priorities c.in_ok-part.ensures c.part-summary.ensures.priorities in
-    let greatest : c.part-summary.result.greatest ≡ greatest_priority (nodes_with c.args.priorities f) = c.part-summary.ensures.summary.greatest
-    ∙ ap (λ r. greatest_priority (nodes_by (rule_of r) 0 (normal_form f))) c.new-survey.ensures in
-    subst IsForm (sym is) (is_form c.args.priorities f (few c.count.result (node_count f) c.if-is_none.ensures c.count.ensures)
+    let greatest : c.part-summary.result.greatest ≡ greatest_node_priority (nodes_with c.args.priorities f) = c.part-summary.ensures.summary.greatest
+    ∙ ap (λ r. greatest_node_priority (nodes_by (rule_of r) 0 (normal_form f))) c.new-survey.ensures in
+    subst IsForm (sym is) (is_form c.args.priorities f (few c.counted_nodes.result (node_count f) c.if-is_none.ensures c.counted_nodes.ensures)
     (omega (arith, greatest, c.if-summary-gt-GREATEST_PRIORITY.false)))

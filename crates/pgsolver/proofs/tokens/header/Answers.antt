@@ -12,9 +12,9 @@ returns-in_default g c = header_stops_2 _ _ _ (rw c.if-not-branch.false at c.in_
 pub returns-then-not-branch-2 : goal.returns-then-not-branch-2
 returns-then-not-branch-2 g c =
     header_goes_on c.in-Some.greatest None _ _ _ _ (rw c.if-not-branch.false at c.in_ok-word.ensures) (rw c.in-Some.is at c.in_ok-greatest.ensures)
-    (end_stops c.in-Some.greatest _ _ (rw c.if-not-branch-2.true at c.in_ok-ends.ensures))
+    (end_stops c.in-Some.greatest _ _ (rw c.if-not-branch-2.true at c.in_ok-has_ended.ensures))
 
 pub returns : goal.returns
 returns g c =
     header_goes_on c.in-Some.greatest (Some c.in-Some.greatest) _ _ _ _ (rw c.if-not-branch.false at c.in_ok-word.ensures)
-    (rw c.in-Some.is at c.in_ok-greatest.ensures) (end_comes c.in-Some.greatest _ _ (rw c.if-not-branch-2.false at c.in_ok-ends.ensures))
+    (rw c.in-Some.is at c.in_ok-greatest.ensures) (end_comes c.in-Some.greatest _ _ (rw c.if-not-branch-2.false at c.in_ok-has_ended.ensures))

@@ -9,5 +9,5 @@ pub returns-then-not-branch-2 : goal.returns-then-not-branch-2
 returns-then-not-branch-2 g c = tail_no_sign _ _ _ (rw c.if-not-branch.false at c.in_ok-name.ensures) (rw c.if-not-branch-2.true at c.in_ok-sign.ensures)
 
 pub returns : goal.returns
-returns g c = MatchResult-weaker c.ends.result c.ends.ensures (λ found ends. tail_passes found _ _ _ _ (rw c.if-not-branch.false at c.in_ok-name.ensures)
+returns g c = MatchResult-weaker c.has_ended.result c.has_ended.ensures (λ found ends. tail_passes found _ _ _ _ (rw c.if-not-branch.false at c.in_ok-name.ensures)
     (rw c.if-not-branch-2.false at c.in_ok-sign.ensures) ends) (λ fault cause. cause)

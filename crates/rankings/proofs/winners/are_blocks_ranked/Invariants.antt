@@ -1,5 +1,5 @@
 use Rattle.std.proofs.Common.{◌≡◌}
-use Rattle.normal.specs.Normal.{normal_nodes}
+use Rattle.forms.specs.Normal.{normal_nodes}
 use Rattle.rankings.specs.Spans.{AreRanked}
 use Rattle.rankings.proofs.winners.are_blocks_ranked.Given as goal
 

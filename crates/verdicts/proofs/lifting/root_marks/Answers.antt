@@ -1,7 +1,8 @@
 use Rattle.std.proofs.Common.{◌+◌, List, Bool, sym, subst}
 use Rattle.calculus.specs.Meaning.{MarksOf}
 use Rattle.requests.specs.Roots.{WinsRoot}
-use Rattle.verdicts.proofs.Roots.{root_below, marks_more, wins_root}
+use Rattle.calculus.proofs.Marks.{marks_more}
+use Rattle.verdicts.proofs.Roots.{root_below, wins_root}
 use Rattle.verdicts.proofs.lifting.root_marks.Goals as goal
 
 pub even_wins_by-requires-clause-vertex : goal.even_wins_by-requires-clause-vertex

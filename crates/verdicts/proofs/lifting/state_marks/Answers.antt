@@ -1,7 +1,7 @@
 use Rattle.std.proofs.Common.{subst, ◌∙◌}
 use Rattle.calculus.specs.Closed.{closed_formula}
 use Rattle.calculus.specs.Meaning.{MarksOf}
-use Rattle.normal.specs.Rules.{nodes_with}
+use Rattle.forms.specs.Rules.{nodes_with}
 use Rattle.game.specs.Game.{Game}
 use Rattle.requests.specs.Roots.{WinsRoot}
 use Rattle.requests.specs.Solver.{FitsBoard}

@@ -1,6 +1,6 @@
 use Rattle.std.proofs.Common.{◌∙◌, sym, true≢false}
 use Rattle.calculus.specs.Closed.{closed_formula}
-use Rattle.normal.specs.Normal.{normal_nodes}
+use Rattle.forms.specs.Normal.{normal_nodes}
 use Rattle.verdicts.proofs.Ranking.{ranked_by}
 use Rattle.verdicts.proofs.ranked.ranked_marks.Goals as goal
 

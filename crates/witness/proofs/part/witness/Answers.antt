@@ -1,6 +1,6 @@
 use Rattle.std.proofs.Common.{◌≡◌, List, Bool, subst, sym, ◌∙◌}
 use Rattle.systems.specs.Numbered.{system_with}
-use Rattle.normal.specs.Normal.{normal_nodes}
+use Rattle.forms.specs.Normal.{normal_nodes}
 use Rattle.evidence.specs.Evidence.{IsEvidence, IsGood}
 use Rattle.evidence.specs.Witness.{AreReached, witness as whole_witness}
 use Rattle.witness.specs.Walk.{is_marked}

@@ -4,7 +4,7 @@ use Rattle.liftcore.specs.Seats.{worker_of}
 use Rattle.game.specs.Game.{Game}
 use Rattle.progress.specs.Measure.{Measure}
 use Rattle.progress.specs.Tables.{GameTable}
-use Rattle.liftcore.specs.Core.{start}
+use Rattle.liftcore.specs.Core.{starting_core}
 use Rattle.liftcore.specs.Marks.{members}
 use Rattle.liftcore.proofs.Marked.{all_members}
 use Rattle.liftcore.proofs.Stated.{core, table}
@@ -15,4 +15,4 @@ returns-clause-start c =
     ap₂ (λ (t : GameTable) (ps : List ℕ). core t ps (map worker_of c.in_ok-idle_seats.field-0.items))
     (ap₂ (λ (g : Game) (vs : List Measure). table g vs) c.in_ok-opening.ensures.game c.in_ok-opening.ensures.values)
     (ap members c.in_ok-all.ensures ∙ (all_members c.vertices.result ∙ ap (range_with_len 0) c.vertices.ensures))
-    ∙ ap (core (start c.args.game.now c.args.workers).table (start c.args.game.now c.args.workers).pending) c.in_ok-idle_seats.ensures.idle
+    ∙ ap (core (starting_core c.args.game.now c.args.workers).table (starting_core c.args.game.now c.args.workers).pending) c.in_ok-idle_seats.ensures.idle

@@ -1,6 +1,6 @@
 use Rattle.std.proofs.Common.{◌≡◌, ℕ, ◌+◌, ◌≤◌, true, sym, ap, subst, arith, rules, not, false}
 use Rattle.calculus.specs.View.{action_of, regular_of}
-use Rattle.normal.specs.Tree.{Norm, size, two, modal, loop_of}
+use Rattle.forms.specs.Tree.{Norm, size, two, modal, loop_of}
 use Rattle.normal.specs.Part.{tree_of}
 use Rattle.normal.specs.Surveys.{open_at, AreBefore, Surveys}
 use Rattle.normal.specs.declared.survey.Place.{Place}

@@ -1,5 +1,0 @@
-use Rattle.evidence.proofs.Canonical.{canon_spells}
-use Rattle.evidence.proofs.law.canon_spells.Goals as goal
-
-pub returns : goal.returns
-returns c = canon_spells

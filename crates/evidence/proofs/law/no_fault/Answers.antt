@@ -1,5 +1,0 @@
-use Rattle.evidence.proofs.Alone.{no_fault}
-use Rattle.evidence.proofs.law.no_fault.Goals as goal
-
-pub returns : goal.returns
-returns c = no_fault

@@ -1,5 +1,0 @@
-use Rattle.evidence.proofs.Alone.{one_fault}
-use Rattle.evidence.proofs.law.one_fault.Goals as goal
-
-pub returns : goal.returns
-returns c = one_fault

@@ -1,5 +1,0 @@
-use Rattle.formula.proofs.Spellable as spellable
-use Rattle.formula.proofs.law.canon_spells.Goals as goal
-
-pub returns : goal.returns
-returns c = spellable.canon_spells

@@ -1,5 +1,0 @@
-use Rattle.formula.proofs.OneText as one
-use Rattle.formula.proofs.law.one_fault.Goals as goal
-
-pub returns : goal.returns
-returns c = one.one_fault

@@ -1,9 +1,0 @@
-use Rattle.game.proofs.Common.{◌≡◌, ◌<◌, ℕ, [], Some, vec_len, map, slice_index_or, slice_get, Node, normal_nodes, IsSetFor}
-use Rattle.game.proofs.build.label_sets.Given as goal
-
-abbrev pub invariant-loop-node : goal.invariant-loop-node
-invariant-loop-node l = record {
-  count : vec_len l.sets ≡ l.node-index;
-  each : (k : ℕ) (node : Node) → k < l.node-index → slice_get (normal_nodes l.form) k ≡ Some node
-      → IsSetFor l.lts.labels node.shape (slice_index_or (map (λ set. set.items) l.sets.items) k []);
-}

@@ -1,5 +1,0 @@
-use Rattle.lts.proofs.Faults as faults
-use Rattle.lts.proofs.law.no_fault.Goals as goal
-
-pub returns : goal.returns
-returns c = faults.no_fault

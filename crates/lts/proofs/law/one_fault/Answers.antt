@@ -1,5 +1,0 @@
-use Rattle.lts.proofs.Faults as faults
-use Rattle.lts.proofs.law.one_fault.Goals as goal
-
-pub returns : goal.returns
-returns c = faults.one_fault

@@ -1,5 +1,0 @@
-use Rattle.pgsolver.proofs.Canonical as canonical
-use Rattle.pgsolver.proofs.law.canon_spells.Goals as goal
-
-pub returns : goal.returns
-returns c = canonical.canon_spells

@@ -1,5 +1,0 @@
-use Rattle.pgsolver.proofs.Faults as faults
-use Rattle.pgsolver.proofs.law.no_fault.Goals as goal
-
-pub returns : goal.returns
-returns c = faults.no_fault

@@ -1,0 +1,5 @@
+use Rattle.pgsolver.proofs.Faults as faults
+use Rattle.pgsolver.proofs.law.one_pg_fault.Goals as goal
+
+pub returns : goal.returns
+returns c = faults.one_fault
