@@ -1,6 +1,8 @@
 // Sets of states, one for each node, as bits.
 
 use crate::stock::Stock;
+use std::alloc::Global;
+use std::mem;
 use std::ops::Range;
 
 /// How many states have their bits in one word.
@@ -101,9 +103,9 @@ impl Sheet {
         &mut self.words
     }
 
-    /// The words of all sets, one set after another.
-    pub(crate) fn into_words(self) -> Vec<u64> {
-        self.words
+    /// The words of all sets, one set after another, of which none is left.
+    pub(crate) fn take_words(&mut self, alloc: Global) -> Vec<u64> {
+        mem::replace(&mut self.words, Vec::new(alloc))
     }
 
     /// Whether a node's set has no state.

@@ -119,6 +119,11 @@ impl Levels {
         }
     }
 
+    /// What was found, without the memory to find more.
+    pub(crate) fn into_board(self) -> Board {
+        self.board
+    }
+
     /// Finds the values of a part, whose binders have the parity of this order, from those of the nodes outside.
     pub(crate) fn run<C: Crew>(&mut self, crew: &C, alloc: Global, part: u32, order: Order) {
         self.part = part;

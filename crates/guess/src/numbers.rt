@@ -3,6 +3,7 @@
 use crate::bits::WORD;
 use crate::stock::Stock;
 use std::alloc::Global;
+use std::mem;
 
 // Makes numbers one where their bits are set, and zero elsewhere.
 fn spread(numbers: &mut [u32], mut bits: u64) {
@@ -45,8 +46,9 @@ impl Numbers {
         }
     }
 
-    pub(crate) fn into_items(self) -> Vec<u32> {
-        self.items
+    /// All items, of which none is left.
+    pub(crate) fn take_items(&mut self, alloc: Global) -> Vec<u32> {
+        mem::replace(&mut self.items, Vec::new(alloc))
     }
 
     pub(crate) fn as_slice(&self) -> &[u32] {
@@ -179,8 +181,9 @@ impl Words {
         stock.is_whole()
     }
 
-    pub(crate) fn into_items(self) -> Vec<u64> {
-        self.items
+    /// All items, of which none is left.
+    pub(crate) fn take_items(&mut self, alloc: Global) -> Vec<u64> {
+        mem::replace(&mut self.items, Vec::new(alloc))
     }
 
     pub(crate) fn as_slice(&self) -> &[u64] {

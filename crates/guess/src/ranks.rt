@@ -273,51 +273,57 @@ impl Ranks {
         Ok(Some(nodes))
     }
 
-    // The ranking, with the lists of what was counted.
-    fn into_guessed(self, alloc: Global) -> Result<Option<GuessedRanking>, AllocError> {
-        let mut even_shifts = Vec::new(alloc);
-        let mut odd_shifts = Vec::new(alloc);
-        even_shifts.extend_from_slice(&self.layout.even.kept)?;
-        odd_shifts.extend_from_slice(&self.layout.odd.kept)?;
-        let nodes = self.nodes(alloc)?;
-        let levels = self.levels;
-        match nodes {
-            Some(nodes) => Ok(Some(GuessedRanking {
-                columns: columns_of(alloc, levels.board, nodes)?,
-                even_shifts,
-                odd_shifts,
-            })),
-            None => Ok(None),
-        }
+    // The ranking, into which the lists of what was counted are moved.
+    fn guessed(&mut self, alloc: Global) -> Result<Option<GuessedRanking>, AllocError> {
+        let Some(nodes) = self.nodes(alloc)? else {
+            return Ok(None);
+        };
+        let columns = columns_of(alloc, &mut self.levels.board, nodes)?;
+        Ok(Some(GuessedRanking {
+            columns,
+            even_shifts: copied(alloc, &self.layout.even.kept)?,
+            odd_shifts: copied(alloc, &self.layout.odd.kept)?,
+        }))
     }
+}
+
+fn copied(alloc: Global, shifts: &[u32]) -> Result<Vec<u32>, AllocError> {
+    let mut copy = Vec::new(alloc);
+    copy.extend_from_slice(shifts)?;
+    Ok(copy)
 }
 
 // Takes the lists out of a board: levels by node, and then rounds.
-fn columns_of(alloc: Global, board: Board, nodes: Vec<Column>) -> Result<Columns, AllocError> {
-    let mut columns = Columns {
+fn columns_of(alloc: Global, board: &mut Board, nodes: Vec<Column>) -> Result<Columns, AllocError> {
+    Ok(Columns {
         nodes,
-        marks: board.tops.into_words(),
-        counts: Vec::new(alloc),
-        words: Vec::new(alloc),
-    };
-    push_counts(&mut columns.counts, board.levels)?;
-    push_counts(&mut columns.counts, board.rounds)?;
-    push_words(&mut columns.words, board.words)?;
-    Ok(columns)
+        marks: board.tops.take_words(alloc),
+        counts: counts_of(alloc, &mut board.levels, &mut board.rounds)?,
+        words: words_of(alloc, &mut board.words)?,
+    })
 }
 
-fn push_counts(counts: &mut Vec<Vec<u32>>, lists: Vec<Numbers>) -> Result<(), AllocError> {
-    for list in lists {
-        counts.push(list.into_items())?;
+fn counts_of(
+    alloc: Global,
+    levels: &mut [Numbers],
+    rounds: &mut [Numbers],
+) -> Result<Vec<Vec<u32>>, AllocError> {
+    let mut counts = Vec::new(alloc);
+    for list in levels {
+        counts.push(list.take_items(alloc))?;
     }
-    Ok(())
+    for list in rounds {
+        counts.push(list.take_items(alloc))?;
+    }
+    Ok(counts)
 }
 
-fn push_words(words: &mut Vec<Vec<u64>>, lists: Vec<Words>) -> Result<(), AllocError> {
+fn words_of(alloc: Global, lists: &mut [Words]) -> Result<Vec<Vec<u64>>, AllocError> {
+    let mut words = Vec::new(alloc);
     for list in lists {
-        words.push(list.into_items())?;
+        words.push(list.take_items(alloc))?;
     }
-    Ok(())
+    Ok(words)
 }
 
 // What is not known yet of the components of these levels. There is nothing for want of memory.
@@ -329,7 +335,12 @@ fn open(alloc: Global, levels: Levels, layout: Layout) -> Option<Ranks> {
         layout,
         parts: Vec::new(alloc),
     };
-    if stock.is_whole() { Some(ranks) } else { None }
+    if stock.is_whole() {
+        Some(ranks)
+    } else {
+        drop(ranks);
+        None
+    }
 }
 
 // The components of these levels. There is nothing where the winners of one aren't found.
@@ -339,7 +350,10 @@ fn find<C: Crew>(crew: &C, alloc: Global, levels: Levels) -> Option<Ranks> {
             Some(ranks) => solved(crew, alloc, ranks),
             None => None,
         },
-        None => None,
+        None => {
+            drop(levels);
+            None
+        }
     }
 }
 
@@ -348,6 +362,7 @@ fn solved<C: Crew>(crew: &C, alloc: Global, ranks: Ranks) -> Option<Ranks> {
     if ranks.solve_all(crew, alloc) {
         Some(ranks)
     } else {
+        drop(ranks);
         None
     }
 }
@@ -365,9 +380,16 @@ pub fn columns<R: Threads>(
     workers: u32,
 ) -> Result<Option<GuessedRanking>, Memory> {
     match find_in(&Team { rt, workers }, alloc, lts, normal) {
-        Some(ranks) => Ok(ranks.into_guessed(alloc)?),
+        Some(ranks) => Ok(guessed_by(alloc, ranks)?),
         None => Ok(None),
     }
+}
+
+fn guessed_by(alloc: Global, ranks: Ranks) -> Result<Option<GuessedRanking>, AllocError> {
+    let mut ranks = ranks;
+    let guessed = ranks.guessed(alloc);
+    drop(ranks);
+    guessed
 }
 
 fn find_in<C: Crew>(crew: &C, alloc: Global, lts: &Lts, normal: &Normal) -> Option<Ranks> {

@@ -137,7 +137,12 @@ pub(crate) fn levels_of(
     match board_of(&mut stock, lts, normal, side, scale, exits) {
         Some(board) => {
             let levels = Levels::new(&mut stock, board);
-            if stock.is_whole() { Some(levels) } else { None }
+            if stock.is_whole() {
+                Some(levels)
+            } else {
+                drop(levels);
+                None
+            }
         }
         None => None,
     }
@@ -457,15 +462,16 @@ impl<'a> Whole<'a> {
         let mut parts = Vec::new(alloc);
         let mut stock = Stock::new(alloc);
         stock.note(solve_all(alloc, &mut levels, &mut parts));
-        let places = places(&mut stock, levels.board.form.count(), &parts);
+        let whole = Whole {
+            lts,
+            places: places(&mut stock, levels.board.form.count(), &parts),
+            board: levels.into_board(),
+            parts,
+        };
         if stock.is_whole() {
-            Some(Whole {
-                lts,
-                board: levels.board,
-                parts,
-                places,
-            })
+            Some(whole)
         } else {
+            drop(whole);
             None
         }
     }
