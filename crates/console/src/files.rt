@@ -126,8 +126,8 @@ impl<'a> Files<'a> {
     }
 
     /// Why one of them could not be made.
-    pub fn into_refusal(self) -> Option<Refusal> {
-        self.refusal.into_inner()
+    pub fn into_refusal(mut self) -> Option<Refusal> {
+        self.refusal.take()
     }
 
     fn make(&self, place: &OnceCell<Target>, name: &str) -> io::Result<()> {

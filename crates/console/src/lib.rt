@@ -12,3 +12,4 @@ pub mod same;
 mod sight;
 mod size;
 pub mod stats;
+mod told;

@@ -2,14 +2,15 @@
 // done where that is asked for.
 
 use crate::notes::note_all;
-use crate::stats::{Activity, Running, Stats, name_of, told_texts};
+use crate::stats::{Activity, Running, Stats, tell_name, tell_texts};
+use crate::told::Told;
 use calculus::closed::Closed;
 use gauge::{Gauge, Reading};
 use hints::strange::{Word, strange_words};
 use lts::system::Lts;
 use measures::observer::{Observer, Stage};
 use requests::watch::Watcher;
-use std::alloc::{AllocError, Global};
+use std::alloc::Global;
 use std::io::{IsTerminal, Write};
 use std::sync::{Arc, Condvar, Mutex, Wait};
 use std::thread::{JoinHandle, Threads};
@@ -71,43 +72,45 @@ impl Place {
     }
 
     // What the line says of a step after so many seconds.
-    fn text(&self, alloc: Global, step: Activity, seconds: u64) -> Result<String, AllocError> {
-        let name = name_of(alloc, step)?;
-        match self.progress(alloc, step)? {
-            Some(progress) => format!(in alloc; "mucheck: {name}, {progress}, {seconds} s\n"),
-            None => format!(in alloc; "mucheck: {name}, {seconds} s\n"),
-        }
+    fn tell(&self, step: Activity, seconds: u64, told: &mut Told) {
+        told.words("mucheck: ");
+        tell_name(step, told);
+        self.tell_progress(step, told);
+        told.words(", ");
+        told.amount(seconds, " s\n");
     }
 
     // How far a step has come, where that is known.
-    fn progress(&self, alloc: Global, step: Activity) -> Result<Option<String>, AllocError> {
+    fn tell_progress(&self, step: Activity, told: &mut Told) {
         if let Activity::Seen(Stage::Counting { priority, .. }) = step {
-            return Ok(Some(format!(in alloc; "down to priority {priority}")?));
-        }
-        match self.gauge.reading() {
-            Some(reading) => shown(alloc, step, reading),
-            None => Ok(None),
+            told.words(", down to priority ");
+            told.amount(u64::from(priority), "");
+        } else if let Some(reading) = self.gauge.reading() {
+            tell_reading(step, reading, told);
         }
     }
 }
 
 // What a gauge shows in a step, in the step's words.
-fn shown(alloc: Global, step: Activity, reading: Reading) -> Result<Option<String>, AllocError> {
+fn tell_reading(step: Activity, reading: Reading, told: &mut Told) {
     let Reading { done, whole } = reading;
     match step {
         Activity::ReadingGame | Activity::Seen(Stage::ReadingSystem | Stage::ReadingFormula) => {
-            let (read, size) = (done / MEGABYTE, whole / MEGABYTE);
-            Ok(Some(format!(in alloc; "{read} of {size} MB")?))
+            told.words(", ");
+            told.amount(done / MEGABYTE, " of ");
+            told.amount(whole / MEGABYTE, " MB");
         }
         Activity::Seen(Stage::Building { .. }) => {
-            Ok(Some(format!(in alloc; "{done} of {whole} vertices")?))
+            told.words(", ");
+            told.amount(done, " of ");
+            told.amount(whole, " vertices");
         }
         Activity::Seen(Stage::Searching { .. }) => {
             let spent = done.saturating_mul(HUNDREDTHS).checked_div(whole);
-            let spent = spent.unwrap_or(0);
-            Ok(Some(format!(in alloc; "{spent} % of the budget spent")?))
+            told.words(", ");
+            told.amount(spent.unwrap_or(0), " % of the budget spent");
         }
-        _ => Ok(None),
+        _ => {}
     }
 }
 
@@ -136,13 +139,15 @@ fn tick<T: Wait + Clock>(rt: HostRuntime, handle: &T, place: &Place) {
 
 // Writes the line in place of the one that stands, if one does. Whether one stands afterwards.
 fn draw(rt: HostRuntime, place: &Place, step: Activity, is_drawn: bool, seconds: u64) -> bool {
-    let Ok(text) = place.text(rt.alloc(), step, seconds) else {
+    let mut told = Told::none(rt.alloc());
+    place.tell(step, seconds, &mut told);
+    if !told.is_whole() {
         return is_drawn;
-    };
+    }
     if is_drawn && rt.stderr().write_all(CLEAR).is_err() {
         return false;
     }
-    rt.stderr().write_all(text.as_bytes()).is_ok()
+    rt.stderr().write_all(told.bytes()).is_ok()
 }
 
 /// What a check tells while it runs.
@@ -231,14 +236,14 @@ impl<T: Wait> ProgressLine<'_, T> {
     }
 
     // Writes a text, where the line stood if there is one.
-    fn tell(&self, text: &str) -> io::Result<()> {
+    fn tell(&self, text: &[u8]) -> io::Result<()> {
         match &self.place {
             Some(place) => {
                 let mut screen = place.screen.lock(self.handle);
                 self.clear(&mut screen)?;
-                self.rt.stderr().write_all(text.as_bytes())
+                self.rt.stderr().write_all(text)
             }
-            None => self.rt.stderr().write_all(text.as_bytes()),
+            None => self.rt.stderr().write_all(text),
         }
     }
 
@@ -291,11 +296,21 @@ impl<T: Wait + Clock> ProgressLine<'_, T> {
         *running = None;
     }
 
+    fn tell_texts(&self, system: &Lts, formula: &Closed) {
+        let mut told = Told::none(self.rt.alloc());
+        tell_texts(self.rt.alloc(), self.stats, system, formula, &mut told);
+        if told.is_whole() {
+            // Where standard error fails, there is nobody to tell.
+            let _ = self.tell(told.bytes());
+        }
+    }
+
     fn tell_ended(&self, ended: Option<Running>) {
         if let Some(ended) = ended {
-            if let Some(text) = ended.told(self.rt, self.handle) {
+            let mut told = Told::none(self.rt.alloc());
+            if ended.tell(self.rt, self.handle, &mut told) {
                 // Where standard error fails, there is nobody to tell.
-                let _ = self.tell(text.as_str());
+                let _ = self.tell(told.bytes());
             }
         }
     }
@@ -318,10 +333,7 @@ impl<T: Wait + Clock> Watcher for ProgressLine<'_, T> {
     fn has_read(&self, system: &Lts, formula: &Closed) {
         if self.stats.are_told() {
             self.end_steps();
-            if let Some(text) = told_texts(self.rt.alloc(), self.stats, system, formula) {
-                // Where standard error fails, there is nobody to tell.
-                let _ = self.tell(text.as_str());
-            }
+            self.tell_texts(system, formula);
         }
         if let Ok(words) = strange_words(self.rt.alloc(), system, formula) {
             // Where standard error fails, there is nobody to tell.

@@ -1,14 +1,15 @@
 // Notes on the words of a formula that no label of a system has.
 
+use crate::told::say;
 use hints::strange::Word;
 use std::io;
 
 /// Writes a note for each word. It names the formula's file, where that is one of several.
 pub fn note_all(rt: HostRuntime, file: Option<&str>, words: &[Word<'_>]) -> io::Result<()> {
     for word in words {
-        eprint!(rt; "mucheck: note: ")?;
+        say(&rt, &["mucheck: note: "])?;
         if let Some(file) = file {
-            eprint!(rt; "{file}: ")?;
+            say(&rt, &[file, ": "])?;
         }
         note_one(rt, *word)?;
     }
@@ -17,13 +18,15 @@ pub fn note_all(rt: HostRuntime, file: Option<&str>, words: &[Word<'_>]) -> io::
 
 fn note_one(rt: HostRuntime, word: Word<'_>) -> io::Result<()> {
     match word {
-        Word::Name(bytes) => match str::from_utf8(bytes) {
-            Ok(name) => eprintln!(rt; "{name} is a name in no label of this system"),
-            Err(_) => eprintln!(rt; ""),
-        },
-        Word::Atom(bytes) => match str::from_utf8(bytes) {
-            Ok(label) => eprintln!(rt; "\"{label}\" is no label of this system"),
-            Err(_) => eprintln!(rt; ""),
-        },
+        Word::Name(bytes) => note_word(rt, "", bytes, " is a name in no label of this system\n"),
+        Word::Atom(bytes) => note_word(rt, "\"", bytes, "\" is no label of this system\n"),
+    }
+}
+
+/// Writes a word with what stands around it; of what is no text the end of the line alone.
+fn note_word(rt: HostRuntime, before: &str, bytes: &[u8], after: &str) -> io::Result<()> {
+    match str::from_utf8(bytes) {
+        Ok(word) => say(&rt, &[before, word, after]),
+        Err(_) => say(&rt, &["\n"]),
     }
 }

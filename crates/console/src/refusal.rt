@@ -1,6 +1,7 @@
 // What is told of a refusal on standard error.
 
 use crate::sight::{Location, Sight, sight_at};
+use crate::told::say;
 use invocation::codes::code_entry;
 use invocation::request::Command;
 use requests::error::MuError;
@@ -71,43 +72,32 @@ impl<'a> Sources<'a> {
 
     /// Those of a command.
     pub fn of(command: &Command<'a>) -> Sources<'a> {
+        let mut sources = NO_SOURCES;
         match command {
-            Command::Check(check, _) => Sources {
-                system: Some(check.system),
-                formula: Some(check.formula),
-                ..NO_SOURCES
-            },
-            Command::Why(why) => Sources {
-                system: Some(why.system),
-                formula: Some(why.formula),
-                ..NO_SOURCES
-            },
-            Command::Table(table) => Sources {
-                system: Some(table.system),
-                ..NO_SOURCES
-            },
-            Command::Normal(normal) => Sources {
-                formula: Some(normal.formula),
-                ..NO_SOURCES
-            },
-            Command::Solve(solve) => Sources {
-                game: Some(solve.game),
-                ..NO_SOURCES
-            },
-            Command::Verify(verify) => Sources {
-                game: Some(verify.game),
-                evidence: Some(verify.evidence),
-                other: verify.other,
-                ..NO_SOURCES
-            },
-            Command::Replay(replay) => Sources {
-                system: Some(replay.system),
-                formula: Some(replay.formula),
-                schedule: Some(replay.schedule),
-                ..NO_SOURCES
-            },
-            Command::Explain(_) | Command::Help(_) | Command::Version => NO_SOURCES,
+            Command::Check(check, _) => {
+                sources.system = Some(check.system);
+                sources.formula = Some(check.formula);
+            }
+            Command::Why(why) => {
+                sources.system = Some(why.system);
+                sources.formula = Some(why.formula);
+            }
+            Command::Table(table) => sources.system = Some(table.system),
+            Command::Normal(normal) => sources.formula = Some(normal.formula),
+            Command::Solve(solve) => sources.game = Some(solve.game),
+            Command::Verify(verify) => {
+                sources.game = Some(verify.game);
+                sources.evidence = Some(verify.evidence);
+                sources.other = verify.other;
+            }
+            Command::Replay(replay) => {
+                sources.system = Some(replay.system);
+                sources.formula = Some(replay.formula);
+                sources.schedule = Some(replay.schedule);
+            }
+            Command::Explain(_) | Command::Help(_) | Command::Version => {}
         }
+        sources
     }
 
     /// The file that a refusal speaks of, or both where it is one of two.
@@ -167,15 +157,18 @@ fn tell_rest(rt: &HostRuntime, files: (Option<&str>, Option<&str>), text: &str) 
 /// Tells in which one of two files it may be.
 fn tell_either(rt: &HostRuntime, first: &str, second: &str, words: Option<&str>) -> io::Result<()> {
     match words {
-        Some(words) => eprintln!(rt; "mucheck: in {first} or {second}, {words}"),
-        None => eprintln!(rt; "mucheck: in {first} or {second}"),
+        Some(words) => say(
+            rt,
+            &["mucheck: in ", first, " or ", second, ", ", words, "\n"],
+        ),
+        None => say(rt, &["mucheck: in ", first, " or ", second, "\n"]),
     }
 }
 
 /// Tells in which file it is and where, shows its line, and tells what is to be done.
 fn tell_in_file(rt: &HostRuntime, code: &str, name: &str, words: Option<&str>) -> io::Result<()> {
     let Some(words) = words else {
-        eprintln!(rt; "mucheck: in {name}")?;
+        say(rt, &["mucheck: in ", name, "\n"])?;
         return tell_remedy(rt, code);
     };
     match look_at(rt, name, words) {
@@ -183,7 +176,7 @@ fn tell_in_file(rt: &HostRuntime, code: &str, name: &str, words: Option<&str>) -
         // Where there is no memory, the line with the code stands alone.
         Err(error) if error.kind() == ErrorKind::OutOfMemory => Ok(()),
         _ => {
-            eprintln!(rt; "mucheck: in {name}, {words}")?;
+            say(rt, &["mucheck: in ", name, ", ", words, "\n"])?;
             tell_remedy(rt, code)
         }
     }
@@ -206,17 +199,14 @@ fn tell_sight(rt: &HostRuntime, code: &str, name: &str, sight: &Sight) -> io::Re
     }
     sight.tell(rt)?;
     match sight.remedy {
-        Some(remedy) => eprintln!(rt; "mucheck: {remedy}"),
+        Some(remedy) => say(rt, &["mucheck: ", remedy, "\n"]),
         None => tell_remedy(rt, code),
     }
 }
 
 fn tell_remedy(rt: &HostRuntime, code: &str) -> io::Result<()> {
     match code_entry(code) {
-        Some(entry) => {
-            let remedy = entry.remedy;
-            eprintln!(rt; "mucheck: {remedy}")
-        }
+        Some(entry) => say(rt, &["mucheck: ", entry.remedy, "\n"]),
         None => Ok(()),
     }
 }

@@ -107,22 +107,27 @@ pub fn keep_game_apart<'a>(
 pub fn keep_answer_apart(rt: &HostRuntime, command: &Command<'_>) -> Result<(), MuError> {
     match command {
         Command::Why(why) => keep_unwritten(rt, &[why.system, why.formula]),
-        Command::Table(table) => {
-            keep_unwritten(rt, &[table.system])?;
-            keep_unwritten(rt, &table.formulas)
-        }
+        Command::Table(table) => keep_both_unwritten(rt, &[table.system], &table.formulas),
         Command::Normal(normal) => keep_unwritten(rt, &[normal.formula]),
         Command::Verify(verify) => {
-            keep_unwritten(rt, &[verify.game, verify.evidence])?;
+            let names = [verify.game, verify.evidence];
             match verify.other {
-                Some(other) => keep_unwritten(rt, &[other]),
-                None => Ok(()),
+                Some(other) => keep_both_unwritten(rt, &names, &[other]),
+                None => keep_unwritten(rt, &names),
             }
         }
         Command::Replay(replay) => {
             keep_unwritten(rt, &[replay.system, replay.formula, replay.schedule])
         }
         _ => Ok(()),
+    }
+}
+
+/// Refuses to read these and those where the answer would go to one of them.
+fn keep_both_unwritten(rt: &HostRuntime, names: &[&str], others: &[&str]) -> Result<(), MuError> {
+    match keep_unwritten(rt, names) {
+        Ok(()) => keep_unwritten(rt, others),
+        Err(error) => Err(error),
     }
 }
 
@@ -215,8 +220,12 @@ fn apart_from(one: &Place<'_>, others: &[Place<'_>]) -> Result<(), ArgumentError
     let Some(own) = one.identity else {
         return Ok(());
     };
-    match others.iter().find(|other| other.identity == Some(own)) {
-        Some(other) => Err(ArgumentError::SameFile(one.file, other.file)),
-        None => Ok(()),
+    for other in others {
+        if let Some(identity) = other.identity
+            && identity == own
+        {
+            return Err(ArgumentError::SameFile(one.file, other.file));
+        }
     }
+    Ok(())
 }

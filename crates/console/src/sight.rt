@@ -10,6 +10,12 @@ use std::{fs, io};
 /// With what a line that is shown begins.
 const MARGIN: &[u8] = b"    ";
 
+/// With what it ends.
+const LINE_END: &[u8] = b"\n";
+
+/// The sign under the place, where its line ends.
+const SIGN: &[u8] = b"^\n";
+
 /// How many bytes of a line are shown at most: with the margin 80 columns.
 const SHOWN: usize = 76;
 
@@ -68,18 +74,23 @@ pub struct Sight {
 impl Sight {
     /// Writes what is shown, and a sign under the place.
     pub fn tell(&self, rt: &HostRuntime) -> io::Result<()> {
-        let mut out = rt.stderr();
-        out.write_all(MARGIN)?;
-        out.write_all(&self.shown)?;
-        out.write_all(b"\n")?;
-        let Some(column) = self.column else {
-            return Ok(());
-        };
-        let before = column.saturating_sub(self.hidden).saturating_sub(1);
-        out.write_all(MARGIN)?;
-        out.write_all(&BLANKS[..before.min(SHOWN)])?;
-        out.write_all(b"^\n")
+        show_line(rt, self.shown.as_slice(), LINE_END)?;
+        match self.column {
+            Some(column) => {
+                let before = column.saturating_sub(self.hidden).saturating_sub(1);
+                show_line(rt, &BLANKS[..before.min(SHOWN)], SIGN)
+            }
+            None => Ok(()),
+        }
     }
+}
+
+/// Writes a line behind the margin, and its end.
+fn show_line(rt: &HostRuntime, line: &[u8], end: &[u8]) -> io::Result<()> {
+    let mut out = rt.stderr();
+    out.write_all(MARGIN)?;
+    out.write_all(line)?;
+    out.write_all(end)
 }
 
 /// What stands at the place in the file of this name; nothing in what can't be read a second time, as standard input or a pipe, and where the file
@@ -92,11 +103,20 @@ pub fn sight_at(rt: &HostRuntime, name: &str, place: Location) -> io::Result<Opt
         return Ok(None);
     }
     let mut reader = BufReader::new(rt.alloc(), File::open(rt, name)?)?;
+    sight_in(rt.alloc(), &mut reader, place)
+}
+
+/// What stands at the place in a text that is read from its beginning on.
+fn sight_in(
+    alloc: Global,
+    reader: &mut BufReader<File>,
+    place: Location,
+) -> io::Result<Option<Sight>> {
     match place {
-        Location::Line(line) => sight_of_line(rt.alloc(), reader, line),
+        Location::Line(line) => sight_of_line(alloc, reader, line),
         Location::Offset(offset) => {
-            let start = line_with(&mut reader, offset)?;
-            Ok(Some(sight_of_byte(rt.alloc(), reader, start, offset)?))
+            let start = line_with(reader, offset)?;
+            Ok(Some(sight_of_byte(alloc, reader, start, offset)?))
         }
     }
 }
@@ -104,10 +124,10 @@ pub fn sight_at(rt: &HostRuntime, name: &str, place: Location) -> io::Result<Opt
 /// What is shown of the line of this number; nothing where there is none.
 fn sight_of_line(
     alloc: Global,
-    mut reader: BufReader<File>,
+    reader: &mut BufReader<File>,
     line: usize,
 ) -> io::Result<Option<Sight>> {
-    if !skip_lines(&mut reader, line.saturating_sub(1))? {
+    if !skip_lines(reader, line.saturating_sub(1))? {
         return Ok(None);
     }
     let mut shown = front_of_line(alloc, reader)?;
@@ -128,7 +148,7 @@ fn sight_of_line(
 /// What is shown of the line that begins there, round the byte at this offset; where the text ends before it, at the line's end.
 fn sight_of_byte(
     alloc: Global,
-    mut reader: BufReader<File>,
+    reader: &mut BufReader<File>,
     start: Start,
     offset: usize,
 ) -> io::Result<Sight> {
@@ -180,7 +200,7 @@ fn line_with(reader: &mut BufReader<File>, offset: usize) -> io::Result<Start> {
 }
 
 /// As much of the rest of a line as is shown, with its end.
-fn front_of_line(alloc: Global, reader: BufReader<File>) -> io::Result<Vec<u8>> {
+fn front_of_line(alloc: Global, reader: &mut BufReader<File>) -> io::Result<Vec<u8>> {
     let mut front = Vec::new(alloc);
     reader.take(SHOWN as u64).read_until(b'\n', &mut front)?;
     Ok(front)
@@ -210,7 +230,7 @@ fn shown_as(byte: u8) -> u8 {
 fn remedy_of_line(front: &[u8]) -> Option<&'static str> {
     if front.starts_with(MARK) {
         Some(BYTE_ORDER_MARK)
-    } else if front.iter().all(|byte| is_white(*byte)) {
+    } else if are_white(front) {
         Some(BLANK_LINE)
     } else {
         None
@@ -239,10 +259,13 @@ fn is_bare_label(text: &[u8], at: usize) -> bool {
 
 /// Whether a bracket of a modality stands open at the end.
 fn is_in_modality(front: &[u8]) -> bool {
-    match front.iter().rev().find(|byte| is_bracket(**byte)) {
-        Some(byte) => *byte == b'<' || *byte == b'[',
-        None => false,
+    let mut is_open = false;
+    for byte in front {
+        if is_bracket(*byte) {
+            is_open = *byte == b'<' || *byte == b'[';
+        }
     }
+    is_open
 }
 
 /// Whether the byte is a parenthesis behind a name, or a digit or a comma somewhere behind such a parenthesis.
@@ -256,15 +279,15 @@ fn begins_parameter(byte: u8, front: &[u8]) -> bool {
 
 /// Whether the parenthesis that stands open at the end has a name in front of it.
 fn is_after_name(front: &[u8]) -> bool {
-    let mut back = front.iter().rev().skip_while(|byte| is_parameter(**byte));
-    is_opening(back.next()) && is_of_name(back.next())
-}
-
-fn is_opening(byte: Option<&u8>) -> bool {
-    match byte {
-        Some(byte) => *byte == b'(',
-        None => false,
+    let mut is_after = false;
+    let mut last = b' ';
+    for byte in front {
+        if !is_parameter(*byte) {
+            is_after = *byte == b'(' && is_name_byte(last);
+        }
+        last = *byte;
     }
+    is_after
 }
 
 fn is_of_name(byte: Option<&u8>) -> bool {
@@ -272,6 +295,15 @@ fn is_of_name(byte: Option<&u8>) -> bool {
         Some(byte) => is_name_byte(*byte),
         None => false,
     }
+}
+
+fn are_white(bytes: &[u8]) -> bool {
+    for byte in bytes {
+        if !is_white(*byte) {
+            return false;
+        }
+    }
+    true
 }
 
 fn is_white(byte: u8) -> bool {

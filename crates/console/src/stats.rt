@@ -1,13 +1,15 @@
 // What `--stats` tells of a run: for each of its stages the time, how much there was, and the greatest memory so far.
 
 use crate::size::Size;
+use crate::told::Told;
 use calculus::closed::Closed;
 use forms::form::Normal;
 use forms::priorities::Priorities;
+use lts::Piece;
 use lts::system::Lts;
 use measures::observer::Stage;
 use normal::make::normal_with;
-use std::alloc::{AllocError, Global};
+use std::alloc::Global;
 use std::fs;
 use std::time::{Clock, Duration, Instant};
 
@@ -80,36 +82,53 @@ impl Running {
         }
     }
 
-    /// What is told of it when it ends now; nothing where there is no clock or no memory.
-    pub fn told<T: Clock>(self, rt: HostRuntime, handle: &T) -> Option<String> {
-        let elapsed = self.since.elapsed(handle).ok()?;
-        told_step(rt, self.step, elapsed).ok()
+    /// Tells of it as it ends now. The answer is whether there is a clock, and was memory.
+    pub(crate) fn tell<T: Clock>(self, rt: HostRuntime, handle: &T, told: &mut Told) -> bool {
+        match self.since.elapsed(handle) {
+            Ok(elapsed) => {
+                tell_step(rt, self.step, elapsed, told);
+                told.is_whole()
+            }
+            Err(_) => false,
+        }
     }
 }
 
-/// What is told of both texts, and of their game where that is told of; nothing where there is no memory.
-pub fn told_texts(alloc: Global, stats: Stats, system: &Lts, formula: &Closed) -> Option<String> {
-    let (states, transitions) = (system.states(), system.transitions());
-    let game = match stats {
-        Stats::StagesAndGame(rule) => told_game(alloc, system, formula, rule),
-        _ => None,
-    };
-    match game {
-        Some(game) => format!(in alloc;
-            "mucheck: {states} states, {transitions} transitions\n{game}"
-        ).ok(),
-        None => format!(in alloc; "mucheck: {states} states, {transitions} transitions\n").ok(),
+/// Tells of both texts, and of their game where that is told of and there is memory for it.
+pub(crate) fn tell_texts(
+    alloc: Global,
+    stats: Stats,
+    system: &Lts,
+    formula: &Closed,
+    told: &mut Told,
+) {
+    told.words("mucheck: ");
+    told.amount(u64::from(system.states()), " states, ");
+    told.amount(system.transitions() as u64, " transitions\n");
+    if let Stats::StagesAndGame(rule) = stats {
+        let mut game = Told::none(alloc);
+        tell_game(alloc, system, formula, rule, &mut game);
+        if game.is_whole() {
+            told.add(&[Piece::Bytes(game.bytes())]);
+        }
     }
 }
 
-/// What is told of the game of both texts; nothing where the formula has no normal form.
-fn told_game(alloc: Global, system: &Lts, formula: &Closed, rule: Priorities) -> Option<String> {
-    let normal = normal_with(alloc, formula, rule).ok()?;
-    let (nodes, priority) = (normal.count(), greatest_priority(&normal));
-    let Size { vertices, edges } = Size::of(alloc, system, &normal).ok()?;
-    format!(in alloc;
-        "mucheck: {nodes} nodes, greatest priority {priority}, {vertices} vertices, {edges} edges\n"
-    ).ok()
+/// Tells of the game of both texts; nothing where the formula has no normal form.
+fn tell_game(alloc: Global, system: &Lts, formula: &Closed, rule: Priorities, told: &mut Told) {
+    if let Ok(normal) = normal_with(alloc, formula, rule) {
+        tell_normal(alloc, system, &normal, told);
+    }
+}
+
+fn tell_normal(alloc: Global, system: &Lts, normal: &Normal, told: &mut Told) {
+    if let Ok(size) = Size::of(alloc, system, normal) {
+        told.words("mucheck: ");
+        told.amount(u64::from(normal.count()), " nodes, greatest priority ");
+        told.amount(u64::from(greatest_priority(normal)), ", ");
+        told.amount(size.vertices, " vertices, ");
+        told.amount(size.edges, " edges\n");
+    }
 }
 
 fn greatest_priority(normal: &Normal) -> u32 {
@@ -120,49 +139,77 @@ fn greatest_priority(normal: &Normal) -> u32 {
     greatest
 }
 
-/// The line of a step that took so long.
-fn told_step(rt: HostRuntime, step: Activity, elapsed: Duration) -> Result<String, AllocError> {
-    let alloc = rt.alloc();
-    let name = name_of(alloc, step)?;
-    let (seconds, thousandths) = (elapsed.as_secs(), elapsed.subsec_millis());
-    match most_memory(rt) {
-        Some(kilobytes) => {
-            let megabytes = kilobytes / 1024;
-            format!(in alloc;
-                "mucheck: {name}: {seconds}.{thousandths:03} s, {megabytes} MB so far\n"
-            )
-        }
-        None => format!(in alloc; "mucheck: {name}: {seconds}.{thousandths:03} s\n"),
+/// Tells of a step that took so long.
+fn tell_step(rt: HostRuntime, step: Activity, elapsed: Duration, told: &mut Told) {
+    told.words("mucheck: ");
+    tell_name(step, told);
+    told.words(": ");
+    told.amount(elapsed.as_secs(), ".");
+    let thousandths = u64::from(elapsed.subsec_millis());
+    told.words(zeros_before(thousandths));
+    told.amount(thousandths, " s");
+    if let Some(kilobytes) = most_memory(rt) {
+        told.words(", ");
+        told.amount(kilobytes / 1024, " MB so far");
+    }
+    told.words("\n");
+}
+
+/// What stands before so many thousandths of a second, that there are three digits.
+fn zeros_before(thousandths: u64) -> &'static str {
+    if thousandths < 10 {
+        "00"
+    } else if thousandths < 100 {
+        "0"
+    } else {
+        ""
     }
 }
 
-/// What a step does, and of how much.
-pub(crate) fn name_of(alloc: Global, step: Activity) -> Result<String, AllocError> {
+/// Tells what a step does, and of how much.
+pub(crate) fn tell_name(step: Activity, told: &mut Told) {
     match step {
-        Activity::ReadingGame => String::from_str(alloc, "reading the game"),
-        Activity::Seen(stage) => name_of_stage(alloc, stage),
+        Activity::ReadingGame => told.words("reading the game"),
+        Activity::Seen(stage) => {
+            told.words(words_of(stage));
+            tell_amount(stage, told);
+        }
     }
 }
 
-/// What a stage does, and of how much.
-fn name_of_stage(alloc: Global, stage: Stage) -> Result<String, AllocError> {
+/// What a stage does.
+fn words_of(stage: Stage) -> &'static str {
     match stage {
-        Stage::ReadingSystem => String::from_str(alloc, "reading the system"),
-        Stage::ReadingFormula => String::from_str(alloc, "reading the formula"),
-        Stage::Building { states } => format!(in alloc; "building, {states} states"),
+        Stage::ReadingSystem => "reading the system",
+        Stage::ReadingFormula => "reading the formula",
+        Stage::Building { .. } => "building",
+        Stage::Searching { .. } | Stage::Counting { .. } => "searching",
+        Stage::Lifting { .. } => "lifting",
+        Stage::Evaluating { .. } => "evaluating by sets",
+        Stage::MakingEvidence { .. } => "making evidence",
+        Stage::Writing => "writing",
+    }
+}
+
+/// Tells of how much a stage does that.
+fn tell_amount(stage: Stage, told: &mut Told) {
+    match stage {
+        Stage::Building { states } | Stage::Evaluating { states } => {
+            told.words(", ");
+            told.amount(u64::from(states), " states");
+        }
         Stage::Searching { vertices }
-        | Stage::Counting {
-            vertices,
-            priority: _,
-        } => format!(in alloc; "searching, {vertices} vertices"),
-        Stage::Lifting { vertices, lifts } => {
-            format!(in alloc; "lifting, {vertices} vertices, {lifts} lifts")
+        | Stage::Counting { vertices, .. }
+        | Stage::Lifting { vertices, .. }
+        | Stage::MakingEvidence { vertices } => {
+            told.words(", ");
+            told.amount(u64::from(vertices), " vertices");
         }
-        Stage::Evaluating { states } => format!(in alloc; "evaluating by sets, {states} states"),
-        Stage::MakingEvidence { vertices } => {
-            format!(in alloc; "making evidence, {vertices} vertices")
-        }
-        Stage::Writing => String::from_str(alloc, "writing"),
+        Stage::ReadingSystem | Stage::ReadingFormula | Stage::Writing => {}
+    }
+    if let Stage::Lifting { lifts, .. } = stage {
+        told.words(", ");
+        told.amount(lifts, " lifts");
     }
 }
 
