@@ -9,7 +9,7 @@ use std::alloc::Global;
 const OFTEN: &str = "nu X. mu Y. (<a>X || <b>Y)";
 
 // Texts of formulas, and their canonical texts.
-const TEXTS: [(&str, &str); 5] = [
+static TEXTS: [(&str, &str); 5] = [
     ("true", "true"),
     (OFTEN, "(nu X. (mu Y. (<a>X || <b>Y)))"),
     ("<a + + b>true", "<(a+ + b)>true"),

@@ -68,7 +68,7 @@ fn says(rt: &(impl Abort + AllocGlobal), game: &Game, text: &str, wanted: &str) 
 }
 
 // A line of Even's evidence, what stands in its place, and what the checker says then. In the last one no rank is the least.
-const CHANGED: [(&str, &str, &str); 11] = [
+static CHANGED: [(&str, &str, &str); 11] = [
     ("", "", "verified even 13 of 16\n"),
     ("5 13 (0)", "5 9 (0)", "refused C1 at 5\n"),
     ("5 13 (0)", "5 - (0)", "refused C1 at 5\n"),
@@ -162,7 +162,7 @@ fn refusal(alloc: Global, game: &Game, text: &str, step: usize) -> Result<String
 }
 
 // Texts for the game of sixteen vertices that are refused, and how.
-const REFUSED: [(&str, &str); 20] = [
+static REFUSED: [(&str, &str); 20] = [
     ("", "E1 at line 1"),
     ("\n", "E1 at line 1"),
     ("evidence\n", "E1 at line 1"),
@@ -203,7 +203,7 @@ fn refuses(rt: &(impl Abort + AllocGlobal), game: &Game, text: &str, wanted: &st
 }
 
 // Lines that have one part 300 times, and how they are refused. A number of any length is a number.
-const LONG: [(&str, &str, &str, &str); 10] = [
+static LONG: [(&str, &str, &str, &str); 10] = [
     ("evidence even", " ", "\n", "E1 at line 1"),
     ("evidence eve", "n", "\n", "E1 at line 1"),
     ("evidence even\n5", "7", " 13 (0)\n", "E3 at line 2"),

@@ -16,7 +16,7 @@ fn refusal(alloc: Global, text: &str) -> Result<String, AllocError> {
 }
 
 // Texts of formulas that are admitted.
-const ADMITTED: [&str; 10] = [
+static ADMITTED: [&str; 10] = [
     "<a>true",
     "true",
     "nu X. mu Y. (<a>X || <b>Y)",
@@ -30,7 +30,7 @@ const ADMITTED: [&str; 10] = [
 ];
 
 // Texts, and what is shown of each.
-const REFUSALS: [(&str, &str); 24] = [
+static REFUSALS: [(&str, &str); 24] = [
     ("mu X. !X", "F6 at offset 7"),
     ("mu X. Y", "F5 at offset 6"),
     ("<a|tau>true", "F2 at offset 3"),
@@ -73,7 +73,7 @@ fn the_deciding_fault_is_told(rt: HostRuntime) {
 }
 
 // A piece, how often it stands, what follows, another piece and how often that stands; and what is shown.
-const LIMITS: [(&str, usize, &str, &str, usize, &str); 10] = [
+static LIMITS: [(&str, usize, &str, &str, usize, &str); 10] = [
     ("!", 256, "true", "", 0, "ok"),
     ("!", 257, "true", "", 0, "F8 at offset 256"),
     ("!", 253, "<a*.b+c>true", "", 0, "F8 at offset 258"),

@@ -37,7 +37,7 @@ fn text_of(alloc: Global, game: &Game) -> Result<String, AllocError> {
 const TWO: &str = "parity 1;\n0 0 0 1;\n1 1 1 0;\n";
 
 // Texts, and what is shown of each.
-const TEXTS: [(&str, &str); 31] = [
+static TEXTS: [(&str, &str); 31] = [
     (TWO, TWO),
     // The lines in another order, blanks, names, a successor that stands twice, and no end of the last line.
     ("parity 1;\n1 1 1 0;\n0 0 0 1;", TWO),
@@ -96,7 +96,7 @@ fn texts_are_read(rt: HostRuntime) {
 }
 
 // Names up to the limit and past it, within a block and beyond one, and how they end; what is told of each line.
-const NAMES: [(usize, &str, &str); 7] = [
+static NAMES: [(usize, &str, &str); 7] = [
     (4_096, "\";", "parity 0;\n0 0 0 0;\n"),
     (4_096, "\"\t;\t\r\n", "parity 0;\n0 0 0 0;\n"),
     (4_097, "\";", "G2 at line 2"),
@@ -117,7 +117,7 @@ fn a_name_has_a_limit(rt: HostRuntime) {
 }
 
 // Successors that stand again and again, and what is told where the line ends so.
-const ENDS: [(&str, &str); 6] = [
+static ENDS: [(&str, &str); 6] = [
     (";", "parity 3;\n0 0 0 1,3;\n1 0 0 1;\n2 0 0 2;\n3 0 0 3;\n"),
     (
         ",2;\n",
@@ -205,7 +205,7 @@ fn names_are_written_and_not_read(rt: HostRuntime) {
     );
 }
 
-const ROWS: [Row; 2] = [(Player::Even, 0, &[1]), (Player::Odd, 1, &[0])];
+static ROWS: [Row; 2] = [(Player::Even, 0, &[1]), (Player::Odd, 1, &[0])];
 
 // A writer without room for the whole text is given a beginning, and a fault is told.
 #[test]

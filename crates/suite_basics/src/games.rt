@@ -65,7 +65,7 @@ fn split(
 }
 
 // Systems, formulas, and their games.
-const GAMES: [(&str, &str, &str); 3] = [
+static GAMES: [(&str, &str, &str); 3] = [
     (
         RING,
         "<a>true",
@@ -169,7 +169,7 @@ fn vertices_are_counted_before_they_are_made(rt: HostRuntime) {
     same(&rt, "a million states", told.as_str(), "B1");
 }
 
-const THREE: [Row; 3] = [
+static THREE: [Row; 3] = [
     (Player::Even, 0, &[0]),
     (Player::Odd, 1, &[0, 2]),
     (Player::Even, 1, &[1]),

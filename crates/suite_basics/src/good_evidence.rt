@@ -136,7 +136,7 @@ fn the_dual_of_the_example(rt: HostRuntime) {
 }
 
 // Small games, and the evidence of each.
-const SMALL: [(&[Row], Wanted); 2] = [
+static SMALL: [(&[Row], Wanted); 2] = [
     (
         &[
             (Player::Even, 0, &[0, 1]),

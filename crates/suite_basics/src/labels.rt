@@ -29,7 +29,7 @@ fn is_read_as(alloc: Global, text: &str, wanted: &str) -> Result<bool, AllocErro
 }
 
 // Labels, and the names that they are read as.
-const READINGS: [(&str, &str); 6] = [
+static READINGS: [(&str, &str); 6] = [
     ("b|a", "a.b."),
     ("a|b|a", "a.a.b."),
     ("tau", ""),
@@ -49,7 +49,7 @@ fn labels_are_read_as_names(rt: HostRuntime) {
 }
 
 // Labels, formulas whose modality has an action formula, and whether it holds of the label.
-const ROWS: [(&str, &str, bool); 8] = [
+static ROWS: [(&str, &str, bool); 8] = [
     ("b|a", "<a|b>true", true),
     ("b|a", "<a>true", false),
     ("b|a", "<\"a|b\">true", false),

@@ -8,7 +8,7 @@ use text::source::{Blocks, blocks_of};
 use text::{Piece, ReadFault, next_line, put_pieces, stream};
 
 // Texts, and their lines with a bar after each.
-const LINES: [(&str, &str); 10] = [
+static LINES: [(&str, &str); 10] = [
     ("", ""),
     ("a\nb\n", "a|b|"),
     ("a\nb", "a|b|"),
@@ -75,7 +75,7 @@ fn a_failed_read_is_no_line(rt: HostRuntime) {
 }
 
 // Lines, signs, and what follows.
-const SIGNS: [(&str, &str, Option<&str>); 7] = [
+static SIGNS: [(&str, &str, Option<&str>); 7] = [
     ("des (0", "des", Some(" (0")),
     (" \t( 0", "(", Some(" 0")),
     ("des", "des", Some("")),
@@ -86,7 +86,7 @@ const SIGNS: [(&str, &str, Option<&str>); 7] = [
 ];
 
 // Lines, their numbers, and what follows. The greatest of the type stands for greater ones.
-const NUMBERS: [(&str, Option<(u32, &str)>); 11] = [
+static NUMBERS: [(&str, Option<(u32, &str)>); 11] = [
     ("0,", Some((0, ","))),
     (" \t17 ,", Some((17, " ,"))),
     ("1 2", Some((1, " 2"))),
@@ -101,7 +101,7 @@ const NUMBERS: [(&str, Option<(u32, &str)>); 11] = [
 ];
 
 // Lines, the numbers before a comma, and what follows.
-const BEFORE: [(&str, Option<(u32, &str)>); 4] = [
+static BEFORE: [(&str, Option<(u32, &str)>); 4] = [
     ("0 , 1", Some((0, " 1"))),
     ("7,", Some((7, ""))),
     ("7)", None),
@@ -109,7 +109,7 @@ const BEFORE: [(&str, Option<(u32, &str)>); 4] = [
 ];
 
 // Lines, what they quote, and what follows.
-const QUOTES: [(&str, Option<(&str, &str)>); 6] = [
+static QUOTES: [(&str, Option<(&str, &str)>); 6] = [
     ("\"a\",1)", Some(("a", ",1)"))),
     (" \t\"\"", Some(("", ""))),
     ("\" a \" )", Some((" a ", " )"))),
@@ -118,10 +118,10 @@ const QUOTES: [(&str, Option<(&str, &str)>); 6] = [
     ("", None),
 ];
 
-const ENDS: [(&str, bool); 4] = [("", true), (" \t", true), (" a", false), ("\r", false)];
+static ENDS: [(&str, bool); 4] = [("", true), (" \t", true), (" a", false), ("\r", false)];
 
 // Texts, and what follows the line where nothing but blanks was left of it.
-const TEXT_ENDS: [(&str, Option<&str>); 7] = [
+static TEXT_ENDS: [(&str, Option<&str>); 7] = [
     (" \t\nb", Some("b")),
     ("\r\n", Some("")),
     (" \r", Some("")),

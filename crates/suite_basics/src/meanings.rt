@@ -20,7 +20,7 @@ const DATA: &str = "des (0,1,2)\n(0,\"r(1)\",1)\n";
 const SILENT: &str = "des ( 0 , 1 , 1 )\r\n\t(0,\"tau\",0)";
 
 // Systems, formulas, and a mark for each state.
-const ROWS: [(&str, &str, &str); 28] = [
+static ROWS: [(&str, &str, &str); 28] = [
     (RING, "<a>true", "yn"),
     (RING, "mu X. X", "nn"),
     (RING, "nu X. X", "yy"),

@@ -5,7 +5,7 @@ use lts::{Lts, read_aut};
 use std::alloc::{AllocError, Global};
 use std::process::Abort;
 
-const PAIRS: [(&str, &str); 7] = [
+static PAIRS: [(&str, &str); 7] = [
     ("eicxpcen", "xnvigdqb"),
     ("ffweeuay", "bhqnqlcq"),
     ("eokkedch", "aeybuoep"),

@@ -43,7 +43,7 @@ fn shape(kind: &Kind) -> Shape {
 type Row = (&'static str, u32, u32, &'static str, u32);
 
 // The nodes of `<a + + b>true`.
-const CHOICE: [Row; 9] = [
+static CHOICE: [Row; 9] = [
     ("or", 1, 7, "", 0),
     ("dia", 2, 0, "a", 0),
     ("mu", 3, 0, "", 1),
@@ -56,7 +56,7 @@ const CHOICE: [Row; 9] = [
 ];
 
 // Those of `!(<a>true && mu X. [b]X)`.
-const NEGATION: [Row; 6] = [
+static NEGATION: [Row; 6] = [
     ("or", 1, 3, "", 0),
     ("box", 2, 0, "a", 0),
     ("false", 0, 0, "", 0),
@@ -110,7 +110,7 @@ fn size(alloc: Global, text: &str) -> Option<String> {
 }
 
 // A beginning, a piece and how often it stands, and an end; and what is shown.
-const SIZES: [(&str, &str, usize, &str, &str); 6] = [
+static SIZES: [(&str, &str, usize, &str, &str); 6] = [
     ("<a + + b>true", "", 0, "", "9 9 1"),
     ("!(<a>true && mu X. [b]X)", "", 0, "", "6 6 1"),
     ("<c><c><c><", "(a+b).", 9, "(a+b)>true", "4096 4096 0"),

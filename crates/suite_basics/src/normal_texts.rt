@@ -10,7 +10,7 @@ use samples::writers::{AMPLE, Narrow};
 use std::alloc::{AllocError, Global};
 
 // Two texts in full.
-const TEXTS: [(&str, &str); 2] = [
+static TEXTS: [(&str, &str); 2] = [
     (
         "<a + + b>true",
         "nodes 9 priority 1 depth 1\n0 or 0 1 7\n1 dia 0 2 a\n2 mu 1 3\n3 or 0 4 5\n4 true 0\n5 dia 0 6 a\n6 var 0 2\n7 dia 0 8 b\n8 true 0\n",
@@ -66,7 +66,7 @@ fn first_line(alloc: Global, text: &str, rule: Priorities) -> Option<String> {
 }
 
 // A beginning, a piece and how often it stands, and an end; the first line by the nested rule, and by the dependent one.
-const LINES: [(&str, &str, usize, &str, &str, &str); 7] = [
+static LINES: [(&str, &str, usize, &str, &str, &str); 7] = [
     (
         "<c><c><c><",
         "(a+b).",

@@ -45,7 +45,7 @@ const AFTER: &str = "(11,\"z\",11)\n";
 const GOOD: &str = "des (0,3,12)\n(0,\"a\",1)\n(10,\"r(1)|b\",9)\n(11,\"z\",11)\n";
 
 // Second lines of three with which the text is the good one.
-const GOOD_LINES: [&str; 10] = [
+static GOOD_LINES: [&str; 10] = [
     "(10,\"r(1)|b\",9)\n",
     "(10,\"r(1)|b\",9)\r\n",
     " (10,\"r(1)|b\",9)\n",
@@ -59,7 +59,7 @@ const GOOD_LINES: [&str; 10] = [
 ];
 
 // Others, and what is told of the text.
-const BAD_LINES: [(&str, &str); 28] = [
+static BAD_LINES: [(&str, &str); 28] = [
     ("10,\"a\",9)\n", "A2 at line 3"),
     ("(10\"a\",9)\n", "A2 at line 3"),
     ("(10,a\",9)\n", "A2 at line 3"),
@@ -106,7 +106,7 @@ fn a_line_is_read_as_the_same_off_any_block(rt: HostRuntime) {
 }
 
 // Of the good text so many bytes at least and so many at most, and what is told of them. Its lines have 13, 10, 16 and 12 bytes.
-const CUTS: [(usize, usize, &str); 8] = [
+static CUTS: [(usize, usize, &str); 8] = [
     (0, 11, "A1 at line 1"),
     (12, 13, "A5 at line 2"),
     (14, 21, "A2 at line 2"),

@@ -33,7 +33,7 @@ fn strange(rt: &(impl Abort + AllocGlobal), system: &str, formula: &str) -> Stri
 const KINDS: &str = "des (0,4,1)\n(0,\"a|b\",0)\n(0,\"c\",0)\n(0,\"tau\",0)\n(0,\"send(1)\",0)\n";
 
 /// A system, a formula, and its strange words.
-const STRANGE: [(&str, &str, &str); 12] = [
+static STRANGE: [(&str, &str, &str); 12] = [
     (RING, "<a>[b]true", ""),
     (RING, "<true*>[tau]false", ""),
     (RING, "<c>true", "name c;"),
@@ -76,7 +76,7 @@ fn no_more_than_ten_are_told(rt: HostRuntime) {
 }
 
 /// A system, the text of a formula, and where its first word begins that is on no transition.
-const ABSENT: [(&str, &str, Option<usize>); 13] = [
+static ABSENT: [(&str, &str, Option<usize>); 13] = [
     (RING, "<a>[b]true", None),
     (RING, "<c>true", Some(1)),
     (RING, "<\"c\">true", Some(1)),

@@ -26,7 +26,7 @@ fn counts(alloc: Global, lts: &Lts) -> Result<String, AllocError> {
 }
 
 // Texts, and what is shown of each.
-const TEXTS: [(&str, &str); 21] = [
+static TEXTS: [(&str, &str); 21] = [
     (RING, "2 0 2 2"),
     ("", "A1 at line 1"),
     ("des (0,2,2)\n(0,\"a\",1)\n", "A5 at line 3"),
@@ -87,7 +87,7 @@ fn labels_have_at_most_4096_bytes(rt: HostRuntime) {
 }
 
 // Heads, a part that is repeated a hundred thousand times, tails, and what is shown.
-const LONG_LINES: [(&str, &str, &str, &str); 7] = [
+static LONG_LINES: [(&str, &str, &str, &str); 7] = [
     ("des (0,1,2)\n", " ", "(0,\"a\",1)\n", "2 0 1 1"),
     ("des (0,1,2)\n(0,\"a\"", "\t", ",1)\n", "2 0 1 1"),
     ("des (0,1,2)\n(0,\"a\",1)", " ", "\r\n", "2 0 1 1"),

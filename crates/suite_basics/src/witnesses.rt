@@ -101,7 +101,7 @@ fn shows(rt: &(impl Abort + AllocGlobal + Threads + Sync), system: &Lts, text: &
 }
 
 // Systems, formulas, and the parts on which the answers rest, worked out by hand.
-const ROWS: [(&str, &str, &str); 13] = [
+static ROWS: [(&str, &str, &str); 13] = [
     (RING, "<a>true", "des (0,1,2)\n(0,\"a\",1)\n"),
     (RING, "[a]false", "des (0,1,2)\n(0,\"a\",1)\n"),
     (RING, "[b]false", "des (0,0,2)\n"),
@@ -132,7 +132,7 @@ fn parts_have_what_the_answer_rests_on(rt: HostRuntime) {
 
 // ---- systems at random
 
-const FORMULAS: [&str; 8] = [
+static FORMULAS: [&str; 8] = [
     "[true*]<true>true",
     "<true*>[true]false",
     "nu X. mu Y. (<a>X || <b>Y)",

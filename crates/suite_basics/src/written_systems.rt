@@ -9,7 +9,7 @@ use std::alloc::Global;
 use std::process::Abort;
 
 // Texts of systems, and their canonical texts.
-const TEXTS: [(&str, &str); 7] = [
+static TEXTS: [(&str, &str); 7] = [
     (RING, RING),
     ("des (0,0,1)", "des (0,0,1)\n"),
     (

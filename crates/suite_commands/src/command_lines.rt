@@ -1,6 +1,6 @@
 // Command lines, and what is asked for by them.
 
-use crate::common::same;
+use crate::common::{holds, same};
 use crate::help::HELP;
 use command_line::information::{explanation, help_text, version_text};
 use command_line::line::command;
@@ -8,7 +8,9 @@ use forms::priorities::Priorities;
 use invocation::names::is_drawing;
 use invocation::request::{Command, Outputs};
 use requests::error::MuError;
-use requests::request::{BoardKind, Check, Options, ReportForm, Solve, Table, Why};
+use requests::request::{
+    BoardKind, Check, Normalize, Options, Replay, ReportForm, Solve, Table, Verify, Why,
+};
 use std::alloc::{AllocError, Global};
 use std::process::Abort;
 
@@ -21,15 +23,15 @@ fn words(alloc: Global, line: &str) -> Result<Vec<String>, AllocError> {
     Ok(words)
 }
 
-/// The numbers of an answer's options, of which each has a place.
-fn options_of(alloc: Global, options: &Options) -> Result<String, AllocError> {
-    let board = match options.board {
-        BoardKind::Auto => "auto",
-        BoardKind::Locked => "locked",
-        BoardKind::Packed => "packed",
-    };
-    let (rule, workers, shards) = (rule_of(options.priorities), options.workers, options.shards);
-    format!(in alloc; "{rule} {workers} {shards} {board}")
+/// Adds words to a text, each behind a space but the first.
+fn add(text: &mut String, words: &[&str]) -> Result<(), AllocError> {
+    for word in words {
+        if !text.is_empty() {
+            text.push_str(" ")?;
+        }
+        text.push_str(word)?;
+    }
+    Ok(())
 }
 
 fn rule_of(priorities: Priorities) -> &'static str {
@@ -39,87 +41,159 @@ fn rule_of(priorities: Priorities) -> &'static str {
     }
 }
 
-/// The form of the report, with its limit where it has one.
-fn form_of(alloc: Global, form: ReportForm) -> Result<String, AllocError> {
-    match form {
-        ReportForm::Whole => String::from_str(alloc, "report"),
-        ReportForm::Summary => String::from_str(alloc, "summary"),
-        ReportForm::Nothing => String::from_str(alloc, "quiet"),
-        ReportForm::States { mark, most } => match most {
-            Some(most) => format!(in alloc; "{most} of {mark}"),
-            None => format!(in alloc; "all of {mark}"),
-        },
+fn board_of(board: BoardKind) -> &'static str {
+    match board {
+        BoardKind::Auto => "auto",
+        BoardKind::Locked => "locked",
+        BoardKind::Packed => "packed",
     }
 }
 
-/// What a check asks for.
-fn check_of(alloc: Global, check: &Check<'_>, outputs: &Outputs<'_>) -> Result<String, AllocError> {
-    let options = options_of(alloc, &check.options)?;
-    let (system, formula, plain) = (check.system, check.formula, check.plain);
-    let strict = if check.strict { " strict" } else { "" };
-    let game = outputs.game.unwrap_or("-");
-    let evidence = outputs.evidence.unwrap_or("-");
-    let witness = outputs.witness.unwrap_or("-");
-    let report = form_of(alloc, outputs.report)?;
-    let stats = if outputs.stats { " stats" } else { "" };
-    format!(in alloc;
-        "check {system} {formula} {options} {plain} {game} {evidence} {witness} {report}{strict}{stats}"
-    )
+fn truth(is_so: bool) -> &'static str {
+    if is_so { "true" } else { "false" }
 }
 
-fn why_of(alloc: Global, why: &Why<'_>) -> Result<String, AllocError> {
-    let options = options_of(alloc, &why.options)?;
-    let (system, formula) = (why.system, why.formula);
-    let strict = if why.strict { " strict" } else { "" };
-    format!(in alloc; "why {system} {formula} {options}{strict}")
+/// Adds the numbers of an answer's options, of which each has a place.
+fn add_options(text: &mut String, options: &Options) -> Result<(), AllocError> {
+    add(text, &[rule_of(options.priorities)])?;
+    write!(text, " {} {}", options.workers, options.shards)?;
+    add(text, &[board_of(options.board)])
 }
 
-fn table_of(alloc: Global, table: &Table<'_>) -> Result<String, AllocError> {
-    let options = options_of(alloc, &table.options)?;
-    let (system, plain) = (table.system, table.plain);
-    let files = table.formulas.join(alloc, ",")?;
-    let strict = if table.strict { " strict" } else { "" };
-    format!(in alloc; "table {system} {files} {options} {plain}{strict}")
+/// Adds the form of the report, with its limit where it has one.
+fn add_form(text: &mut String, form: ReportForm) -> Result<(), AllocError> {
+    match form {
+        ReportForm::Whole => add(text, &["report"]),
+        ReportForm::Summary => add(text, &["summary"]),
+        ReportForm::Nothing => add(text, &["quiet"]),
+        ReportForm::States { mark, most } => {
+            add_limit(text, most)?;
+            add(text, &["of", truth(mark)])
+        }
+    }
 }
 
-fn solve_of(alloc: Global, solve: &Solve<'_>) -> Result<String, AllocError> {
-    let options = options_of(alloc, &solve.options)?;
-    let (game, evidence) = (solve.game, solve.evidence.unwrap_or("-"));
-    let stats = if solve.stats { " stats" } else { "" };
-    format!(in alloc; "solve {game} {options} {evidence}{stats}")
+fn add_limit(text: &mut String, most: Option<u32>) -> Result<(), AllocError> {
+    match most {
+        Some(most) => write!(text, " {most}")?,
+        None => add(text, &["all"])?,
+    }
+    Ok(())
+}
+
+/// Adds what is asked for beside all that has a place.
+fn add_marks(text: &mut String, is_strict: bool, has_stats: bool) -> Result<(), AllocError> {
+    if is_strict {
+        add(text, &["strict"])?;
+    }
+    if has_stats {
+        add(text, &["stats"])?;
+    }
+    Ok(())
+}
+
+/// Adds the names of files, with commas between them.
+fn add_files(text: &mut String, files: &[&str]) -> Result<(), AllocError> {
+    let mut sign = " ";
+    for file in files {
+        text.push_str(sign)?;
+        text.push_str(file)?;
+        sign = ",";
+    }
+    Ok(())
+}
+
+/// Adds where a check's texts go, or a line where they go nowhere.
+fn add_outputs(text: &mut String, outputs: &Outputs<'_>) -> Result<(), AllocError> {
+    for output in [outputs.game, outputs.evidence, outputs.witness] {
+        add(text, &[output.unwrap_or("-")])?;
+    }
+    add_form(text, outputs.report)
+}
+
+/// Adds what a check asks for.
+fn add_check(
+    text: &mut String,
+    check: &Check<'_>,
+    outputs: &Outputs<'_>,
+) -> Result<(), AllocError> {
+    add(text, &["check", check.system, check.formula])?;
+    add_options(text, &check.options)?;
+    add(text, &[truth(check.plain)])?;
+    add_outputs(text, outputs)?;
+    add_marks(text, check.strict, outputs.stats)
+}
+
+fn add_why(text: &mut String, why: &Why<'_>) -> Result<(), AllocError> {
+    add(text, &["why", why.system, why.formula])?;
+    add_options(text, &why.options)?;
+    add_marks(text, why.strict, false)
+}
+
+fn add_table(text: &mut String, table: &Table<'_>) -> Result<(), AllocError> {
+    add(text, &["table", table.system])?;
+    add_files(text, table.formulas.as_slice())?;
+    add_options(text, &table.options)?;
+    add(text, &[truth(table.plain)])?;
+    add_marks(text, table.strict, false)
+}
+
+fn add_solve(text: &mut String, solve: &Solve<'_>) -> Result<(), AllocError> {
+    add(text, &["solve", solve.game])?;
+    add_options(text, &solve.options)?;
+    add(text, &[solve.evidence.unwrap_or("-")])?;
+    add_marks(text, false, solve.stats)
+}
+
+fn add_verify(text: &mut String, verify: &Verify<'_>) -> Result<(), AllocError> {
+    let other = verify.other.unwrap_or("-");
+    add(text, &["verify", verify.game, verify.evidence, other])
+}
+
+fn add_replay(text: &mut String, replay: &Replay<'_>) -> Result<(), AllocError> {
+    let (system, formula, schedule) = (replay.system, replay.formula, replay.schedule);
+    add(text, &["replay", system, formula, schedule])?;
+    write!(text, " {}", replay.workers)?;
+    Ok(())
+}
+
+fn add_normal(text: &mut String, form: &Normalize<'_>) -> Result<(), AllocError> {
+    add(text, &["normal", form.formula])?;
+    add(text, &[rule_of(form.priorities)])
+}
+
+fn add_help(text: &mut String, topic: Option<&str>) -> Result<(), AllocError> {
+    add(text, &["help", topic.unwrap_or("-")])
+}
+
+fn add_explain(text: &mut String, code: &str) -> Result<(), AllocError> {
+    add(text, &["explain", code])
+}
+
+/// Adds what a command asks for.
+fn add_command(text: &mut String, command: &Command<'_>) -> Result<(), AllocError> {
+    match command {
+        Command::Check(check, outputs) => add_check(text, check, outputs),
+        Command::Why(why) => add_why(text, why),
+        Command::Table(table) => add_table(text, table),
+        Command::Normal(form) => add_normal(text, form),
+        Command::Solve(solve) => add_solve(text, solve),
+        Command::Verify(verify) => add_verify(text, verify),
+        Command::Replay(replay) => add_replay(text, replay),
+        Command::Explain(code) => add_explain(text, code),
+        Command::Help(topic) => add_help(text, *topic),
+        Command::Version => add(text, &["version"]),
+    }
 }
 
 /// What a command asks for.
 fn asked_of(alloc: Global, command: &Command<'_>) -> Result<String, AllocError> {
-    match command {
-        Command::Check(check, outputs) => check_of(alloc, check, outputs),
-        Command::Why(why) => why_of(alloc, why),
-        Command::Table(table) => table_of(alloc, table),
-        Command::Normal(form) => {
-            let (formula, rule) = (form.formula, rule_of(form.priorities));
-            format!(in alloc; "normal {formula} {rule}")
-        }
-        Command::Solve(solve) => solve_of(alloc, solve),
-        Command::Verify(verify) => {
-            let (game, evidence) = (verify.game, verify.evidence);
-            let other = verify.other.unwrap_or("-");
-            format!(in alloc; "verify {game} {evidence} {other}")
-        }
-        Command::Replay(replay) => {
-            let (system, formula, schedule) = (replay.system, replay.formula, replay.schedule);
-            let workers = replay.workers;
-            format!(in alloc; "replay {system} {formula} {schedule} {workers}")
-        }
-        Command::Explain(code) => format!(in alloc; "explain {code}"),
-        Command::Help(topic) => {
-            let topic = topic.unwrap_or("-");
-            format!(in alloc; "help {topic}")
-        }
-        Command::Version => String::from_str(alloc, "version"),
-    }
+    let mut text = String::new(alloc);
+    add_command(&mut text, command)?;
+    Ok(text)
 }
 
-/// What the words ask for.
+/// What the words ask for, or why they are refused.
 fn request_of(alloc: Global, words: &[String]) -> Result<String, AllocError> {
     match command(alloc, words) {
         Ok(command) => asked_of(alloc, &command),
@@ -127,8 +201,14 @@ fn request_of(alloc: Global, words: &[String]) -> Result<String, AllocError> {
     }
 }
 
+/// What a line asks for, or why it is refused.
+fn line_asked(alloc: Global, line: &str) -> Result<String, AllocError> {
+    let words = words(alloc, line)?;
+    request_of(alloc, words.as_slice())
+}
+
 /// Checks and what they ask for, with the defaults of the program's description: how they solve, and what they write beside the report.
-const CHECKS: [(&str, &str); 13] = [
+static CHECKS: [(&str, &str); 13] = [
     (
         "mucheck check - f",
         "check - f nested 1 16 auto false - - - report",
@@ -184,7 +264,7 @@ const CHECKS: [(&str, &str); 13] = [
 ];
 
 /// Checks in other ways, or with other reports.
-const REPORTS: [(&str, &str); 16] = [
+static REPORTS: [(&str, &str); 16] = [
     (
         "mucheck check s - --plain",
         "check s - nested 1 16 auto true - - - report",
@@ -252,7 +332,7 @@ const REPORTS: [(&str, &str); 16] = [
 ];
 
 /// Other commands.
-const OTHERS: [(&str, &str); 28] = [
+static OTHERS: [(&str, &str); 28] = [
     (
         "mucheck table s f - g",
         "table s f,-,g nested 1 16 auto false",
@@ -317,29 +397,29 @@ const OTHERS: [(&str, &str); 28] = [
 ];
 
 fn takes(rt: &(impl Abort + AllocGlobal), line: &str, wanted: &str) {
-    let words = words(rt.alloc(), line).expect(rt, "memory");
-    let asked = request_of(rt.alloc(), words.as_slice()).expect(rt, "memory");
+    let asked = line_asked(rt.alloc(), line).expect(rt, "memory");
     same(rt, line, asked.as_str(), wanted);
+}
+
+/// Each line asks for what stands beside it.
+fn take_all(rt: &(impl Abort + AllocGlobal), rows: &[(&str, &str)]) {
+    for (line, wanted) in rows {
+        takes(rt, line, wanted);
+    }
 }
 
 #[test]
 fn takes_checks(rt: HostRuntime) {
-    for (line, wanted) in &CHECKS {
-        takes(&rt, line, wanted);
-    }
-    for (line, wanted) in &REPORTS {
-        takes(&rt, line, wanted);
-    }
+    take_all(&rt, &CHECKS);
+    take_all(&rt, &REPORTS);
 }
 
 #[test]
 fn takes_other_commands(rt: HostRuntime) {
-    for (line, wanted) in &OTHERS {
-        takes(&rt, line, wanted);
-    }
+    take_all(&rt, &OTHERS);
 }
 
-const REFUSED: [&str; 86] = [
+static REFUSED: [&str; 86] = [
     "mucheck check - -",
     "mucheck table - f -",
     "mucheck table s - f -",
@@ -428,17 +508,25 @@ const REFUSED: [&str; 86] = [
     "mucheck other",
 ];
 
+/// Whether the words of a line are no command.
+fn is_refused(alloc: Global, line: &str) -> Result<bool, AllocError> {
+    let words = words(alloc, line)?;
+    Ok(is_no_command(alloc, words.as_slice()))
+}
+
+fn is_no_command(alloc: Global, words: &[String]) -> bool {
+    matches!(&command(alloc, words), Err(MuError::Arguments(_)))
+}
+
 #[test]
 fn refuses_command_lines(rt: HostRuntime) {
     for line in &REFUSED {
-        let words = words(rt.alloc(), line).expect(&rt, "memory");
-        let answer = command(rt.alloc(), words.as_slice());
-        assert!(rt; matches!(&answer, Err(MuError::Arguments(_))), "{line}");
+        holds(&rt, line, matches!(is_refused(rt.alloc(), line), Ok(true)));
     }
 }
 
 /// Lines that would destroy a file, or write what there isn't, and what is said of them.
-const DESTRUCTIVE: [(&str, &str); 14] = [
+static DESTRUCTIVE: [(&str, &str); 14] = [
     (
         "mucheck check s f --game s",
         "the file of --game and SYSTEM are the same file",
@@ -497,18 +585,37 @@ const DESTRUCTIVE: [(&str, &str); 14] = [
     ),
 ];
 
+/// What is written of a line that asks for help, or is refused.
+fn told(rt: &(impl Abort + AllocGlobal), line: &str) -> String {
+    line_told(rt.alloc(), line).expect(rt, "memory")
+}
+
+fn line_told(alloc: Global, line: &str) -> Result<String, AllocError> {
+    let words = words(alloc, line)?;
+    help(alloc, words.as_slice())
+}
+
+/// This is written of a line that asks for help, or is refused.
+fn tells(rt: &(impl Abort + AllocGlobal), line: &str, wanted: &str) {
+    let text = told(rt, line);
+    same(rt, line, text.as_str(), wanted);
+}
+
+/// This is written of a line behind the word that it is an error.
+fn tells_error(rt: &(impl Abort + AllocGlobal), line: &str, wanted: &str) {
+    let wanted = format!(in rt.alloc(); "error: {wanted}\n").expect(rt, "memory");
+    tells(rt, line, wanted.as_str());
+}
+
 #[test]
 fn says_what_would_be_destroyed(rt: HostRuntime) {
     for (line, wanted) in &DESTRUCTIVE {
-        let words = words(rt.alloc(), line).expect(&rt, "memory");
-        let text = help(rt.alloc(), words.as_slice()).expect(&rt, "memory");
-        let wanted = format!(in rt.alloc(); "error: {wanted}\n").expect(&rt, "memory");
-        same(&rt, line, text.as_str(), wanted.as_str());
+        tells_error(&rt, line, wanted);
     }
 }
 
 /// Names of a witness's file, and whether it is a drawing.
-const DRAWINGS: [(&str, bool); 10] = [
+static DRAWINGS: [(&str, bool); 10] = [
     ("w.dot", true),
     ("w.gv", true),
     ("w.DOT", true),
@@ -524,22 +631,60 @@ const DRAWINGS: [(&str, bool); 10] = [
 #[test]
 fn drawings_go_by_their_names(rt: HostRuntime) {
     for (name, wanted) in &DRAWINGS {
-        assert!(rt; is_drawing(name) == *wanted, "{name}");
+        holds(&rt, name, is_drawing(name) == *wanted);
     }
+}
+
+/// The code is explained so.
+fn explains(rt: &(impl Abort + AllocGlobal), code: &str, wanted: &str) {
+    let text = explanation(rt.alloc(), code).expect(rt, "a code");
+    same(rt, code, text.as_str(), wanted);
+}
+
+fn is_no_code(alloc: Global, code: &str) -> bool {
+    matches!(&explanation(alloc, code), Err(MuError::Arguments(_)))
 }
 
 /// (from docs/CODES.md, with which tests/codes compares all of them)
 #[test]
 fn codes_are_explained(rt: HostRuntime) {
-    let text = explanation(rt.alloc(), "A3").expect(&rt, "a code");
-    let wanted =
+    explains(
+        &rt,
+        "A3",
         "A3 at line 1: more than 10,000,000 transitions or 1,000,000 states are announced\n\
-        What to do: reduce the system first, for example by branching bisimulation\n";
-    same(&rt, "A3", text.as_str(), wanted);
+        What to do: reduce the system first, for example by branching bisimulation\n",
+    );
     for code in &["", "A", "A0", "A33", "a3", "T3"] {
-        let answer = explanation(rt.alloc(), code);
-        assert!(rt; matches!(&answer, Err(MuError::Arguments(_))), "{code}");
+        holds(&rt, code, is_no_code(rt.alloc(), code));
     }
+}
+
+/// What help tells of a command, or of the program.
+fn help_of(rt: &(impl Abort + AllocGlobal), command: Option<&str>) -> String {
+    help_text(rt.alloc(), command).expect(rt, "a command")
+}
+
+/// What help tells of a command is what its option shows.
+fn helps(rt: &(impl Abort + AllocGlobal), command: &str) {
+    let line = format!(in rt.alloc(); "mucheck {command} --help").expect(rt, "memory");
+    let wanted = help_of(rt, Some(command));
+    tells(rt, line.as_str(), wanted.as_str());
+}
+
+fn is_no_topic(alloc: Global, topic: &str) -> bool {
+    matches!(&help_text(alloc, Some(topic)), Err(MuError::Arguments(_)))
+}
+
+/// This is what help tells of the program.
+fn helps_with(rt: &(impl Abort + AllocGlobal), wanted: &str) {
+    let text = help_of(rt, None);
+    same(rt, "help", text.as_str(), wanted);
+}
+
+/// This is told of the version.
+fn is_version(rt: &(impl Abort + AllocGlobal), wanted: &str) {
+    let text = version_text(rt.alloc()).expect(rt, "version");
+    same(rt, "version", text.as_str(), wanted);
 }
 
 /// What is told of help and version is what their options show.
@@ -549,21 +694,11 @@ fn texts_are_those_of_the_options(rt: HostRuntime) {
         "check", "why", "table", "normal", "solve", "verify", "replay", "explain", "help",
         "version",
     ] {
-        let line = format!(in rt.alloc(); "mucheck {command} --help").expect(&rt, "memory");
-        let words = words(rt.alloc(), line.as_str()).expect(&rt, "memory");
-        let shown = help(rt.alloc(), words.as_slice()).expect(&rt, "memory");
-        let told = help_text(rt.alloc(), Some(command)).expect(&rt, "a command");
-        same(&rt, command, told.as_str(), shown.as_str());
+        helps(&rt, command);
     }
-    let told = help_text(rt.alloc(), None).expect(&rt, "help");
-    same(&rt, "help", told.as_str(), HELP);
-    let told = version_text(rt.alloc()).expect(&rt, "version");
-    same(&rt, "version", told.as_str(), TOLD_VERSION);
-    let other = help_text(rt.alloc(), Some("other"));
-    assert!(rt;
-        matches!(&other, Err(MuError::Arguments(_))),
-        "no such command"
-    );
+    helps_with(&rt, HELP);
+    is_version(&rt, TOLD_VERSION);
+    holds(&rt, "no such command", is_no_topic(rt.alloc(), "other"));
 }
 
 /// What is written of the help that was asked for.
@@ -575,7 +710,7 @@ fn help(alloc: Global, words: &[String]) -> Result<String, AllocError> {
 }
 
 /// A command, and parts of its help.
-const SHOWN: [(&str, [&str; 4]); 6] = [
+static SHOWN: [(&str, [&str; 4]); 6] = [
     (
         "mucheck table --help",
         [
@@ -629,21 +764,14 @@ const SHOWN: [(&str, [&str; 4]); 6] = [
 
 fn shows(rt: &impl Abort, text: &str, parts: &[&str]) {
     for part in parts {
-        assert!(rt; text.contains(*part), "{part}");
+        holds(rt, part, text.contains(*part));
     }
 }
 
 #[test]
 fn help_shows_what_is_served(rt: HostRuntime) {
     for (line, parts) in &SHOWN {
-        let line = words(rt.alloc(), line).expect(&rt, "memory");
-        shows(
-            &rt,
-            help(rt.alloc(), line.as_slice())
-                .expect(&rt, "memory")
-                .as_str(),
-            parts.as_slice(),
-        );
+        shows(&rt, told(&rt, line).as_str(), parts.as_slice());
     }
 }
 
@@ -652,15 +780,11 @@ const TOLD_VERSION: &str = "mucheck 0.9.0\nproved with rattle-kit-13f logic dac8
 
 #[test]
 fn version_tells_the_toolchain(rt: HostRuntime) {
-    let line = words(rt.alloc(), "mucheck --version").expect(&rt, "memory");
-    let text = help(rt.alloc(), line.as_slice()).expect(&rt, "memory");
-    same(&rt, "version", text.as_str(), TOLD_VERSION);
+    tells(&rt, "mucheck --version", TOLD_VERSION);
 }
 
 /// The text that the script `./mucheck` shows as long as the program isn't built is the program's own.
 #[test]
 fn help_is_what_the_script_shows(rt: HostRuntime) {
-    let line = words(rt.alloc(), "mucheck --help").expect(&rt, "memory");
-    let text = help(rt.alloc(), line.as_slice()).expect(&rt, "memory");
-    same(&rt, "help", text.as_str(), HELP);
+    tells(&rt, "mucheck --help", HELP);
 }

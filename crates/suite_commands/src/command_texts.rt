@@ -1,10 +1,9 @@
 // What the commands `normal`, `solve` and `verify` write, answer and refuse: the worked examples of docs/FORMATS.md, and games that were solved by hand.
 
-use crate::common::same;
+use crate::common::{answers, cramped, holds, is_cut, is_written, ready};
 use commands::normal_text::{normal_asked, normal_text};
 use commands::solve_text::solve_text;
 use commands::verify_text::{verify_both_text, verify_text};
-use fixtures::answers::answer_text;
 use fixtures::texts::{
     APART, EVEN_OF_APART, EVEN_OF_OFTEN_A, EVEN_OF_STEP, ODD_OF_APART, ODD_OF_OFTEN_A, ODD_OF_STEP,
     OFTEN_A, STEP,
@@ -14,9 +13,9 @@ use requests::error::MuError;
 use requests::request::{BoardKind, Normalize, Options};
 use samples::readers::Slow;
 use samples::texts::repeated_text;
-use samples::writers::{AMPLE, AtEnd, Narrow};
+use samples::writers::{AMPLE, Narrow};
 use std::alloc::{AllocError, Global};
-use std::io::{Read, Write};
+use std::io::Write;
 use std::process::Abort;
 use std::sync::Wait;
 use std::thread::Threads;
@@ -27,9 +26,6 @@ const OPTIONS: Options = Options {
     shards: 16,
     board: BoardKind::Auto,
 };
-
-/// More than the commands write here.
-const MOST_WRITTEN: usize = 1_000;
 
 /// A command with its texts.
 #[derive(Clone, Copy)]
@@ -48,22 +44,37 @@ fn run<W: Write, H: Threads + Wait + AllocGlobal + Clone + Copy + Drop + Send + 
 ) -> Result<bool, MuError> {
     let alloc = rt.alloc();
     match asked {
-        Asked::Normal(formula, rule) => {
-            let request = Normalize {
-                formula: "f",
-                priorities: *rule,
-            };
-            normal_asked(alloc, &request, formula.as_bytes(), out)
-        }
+        Asked::Normal(formula, rule) => run_normal(alloc, formula, *rule, out),
         Asked::Solve(game) => solve_text(rt, alloc, game.as_bytes(), options, out),
         Asked::Verify(game, evidence) => {
             verify_text(alloc, game.as_bytes(), evidence.as_bytes(), out)
         }
-        Asked::Both(game, first, second) => {
-            let evidence = (first.as_bytes(), second.as_bytes());
-            verify_both_text(alloc, game.as_bytes(), evidence.0, evidence.1, out)
-        }
+        Asked::Both(game, first, second) => run_both(alloc, game, first, second, out),
     }
+}
+
+fn run_normal<W: Write>(
+    alloc: Global,
+    formula: &str,
+    rule: Priorities,
+    out: &mut W,
+) -> Result<bool, MuError> {
+    let request = Normalize {
+        formula: "f",
+        priorities: rule,
+    };
+    normal_asked(alloc, &request, formula.as_bytes(), out)
+}
+
+fn run_both<W: Write>(
+    alloc: Global,
+    game: &str,
+    first: &str,
+    second: &str,
+    out: &mut W,
+) -> Result<bool, MuError> {
+    let evidence = (first.as_bytes(), second.as_bytes());
+    verify_both_text(alloc, game.as_bytes(), evidence.0, evidence.1, out)
 }
 
 /// The command writes this, and answers so.
@@ -85,12 +96,11 @@ fn tells_with<H: Abort + Threads + Wait + AllocGlobal + Clone + Copy + Drop + Se
 ) {
     let (text, answer) = wanted;
     let mut out = Narrow::new(rt.alloc(), 7, AMPLE);
-    let found = answer_text(rt.alloc(), &run(rt, asked, options, &mut out)).expect(rt, "memory");
-    same(rt, text, found.as_str(), answer);
-    assert!(rt; out.taken.as_slice() == text.as_bytes(), "{text}");
+    answers(rt, text, &run(rt, asked, options, &mut out), answer);
+    is_written(rt, text, &out);
 }
 
-const TOLD: [(Asked<'static>, &str, &str); 15] = [
+static TOLD: [(Asked<'static>, &str, &str); 15] = [
     (
         Asked::Normal("<a + + b>true", Priorities::Nested),
         "nodes 9 priority 1 depth 1\n0 or 0 1 7\n1 dia 0 2 a\n2 mu 1 3\n3 or 0 4 5\n4 true 0\n5 dia 0 6 a\n6 var 0 2\n7 dia 0 8 b\n8 true 0\n",
@@ -176,7 +186,7 @@ fn commands_write_what_was_worked_out(rt: HostRuntime) {
 }
 
 /// Formulas, and the first line of the normal form by the nested rule and by the dependent one.
-const FIRST_LINES: [(&str, &str, &str); 4] = [
+static FIRST_LINES: [(&str, &str, &str); 4] = [
     (
         "[true*]<true*>(<a>true)",
         "nodes 10 priority 2 depth 2\n",
@@ -201,24 +211,46 @@ const FIRST_LINES: [(&str, &str, &str); 4] = [
 
 fn begins(rt: &(impl Abort + AllocGlobal), formula: &str, rule: Priorities, line: &str) {
     let mut out = Vec::new(rt.alloc());
-    assert!(rt; normal_text(rt.alloc(), formula.as_bytes(), rule, &mut out).is_ok());
-    assert!(rt; out.starts_with(line.as_bytes()), "{formula}");
+    let answer = normal_text(rt.alloc(), formula.as_bytes(), rule, &mut out);
+    holds(
+        rt,
+        formula,
+        answer.is_ok() && out.starts_with(line.as_bytes()),
+    );
+}
+
+/// The first lines of the normal forms by either rule.
+fn begin_with(rt: &(impl Abort + AllocGlobal), formula: &str, nested: &str, dependent: &str) {
+    begins(rt, formula, Priorities::Nested, nested);
+    begins(rt, formula, Priorities::Dependent, dependent);
+}
+
+/// A formula of so many binders that only the dependent rule has priorities for it.
+fn nests_too_deep<H: Abort + Threads + Wait + AllocGlobal + Clone + Copy + Drop + Send + Sync>(
+    rt: &H,
+    binders: &str,
+) {
+    begins(
+        rt,
+        binders,
+        Priorities::Dependent,
+        "nodes 33 priority 1 depth 32\n",
+    );
+    tells(rt, &Asked::Normal(binders, Priorities::Nested), "", "N2");
+}
+
+/// The head, then the part this often, then the tail.
+fn repeats(rt: &(impl Abort + AllocGlobal), head: &str, part: (&str, usize), tail: &str) -> String {
+    repeated_text(rt.alloc(), head, part.0, part.1, tail).expect(rt, "memory")
 }
 
 #[test]
 fn normal_forms_by_either_rule(rt: HostRuntime) {
     for (formula, nested, dependent) in &FIRST_LINES {
-        begins(&rt, formula, Priorities::Nested, nested);
-        begins(&rt, formula, Priorities::Dependent, dependent);
+        begin_with(&rt, formula, nested, dependent);
     }
-    let binders = repeated_text(rt.alloc(), "", "nu X. mu X. ", 16, "true").expect(&rt, "memory");
-    let line = "nodes 33 priority 1 depth 32\n";
-    begins(&rt, binders.as_str(), Priorities::Dependent, line);
-    let nested = Asked::Normal(binders.as_str(), Priorities::Nested);
-    tells(&rt, &nested, "", "N2");
-    let large = repeated_text(rt.alloc(), "<c><c><c><c><", "(a+b).", 9, "(a+b)>true").expect(
-        &rt, "memory",
-    );
+    nests_too_deep(&rt, repeats(&rt, "", ("nu X. mu X. ", 16), "true").as_str());
+    let large = repeats(&rt, "<c><c><c><c><", ("(a+b).", 9), "(a+b)>true");
     tells(
         &rt,
         &Asked::Normal(large.as_str(), Priorities::Nested),
@@ -241,7 +273,7 @@ fn with_line(alloc: Global, text: &str, line: &str, other: &str) -> Result<Strin
 }
 
 /// A line of Even's evidence, what stands in its place, and what is told of it then.
-const CHANGED: [(&str, &str, &str, &str); 11] = [
+static CHANGED: [(&str, &str, &str, &str); 11] = [
     ("5 13 (0)", "5 9 (0)", "refused C1 at 5\n", "no"),
     ("14 8 (1)", "", "refused C2 at 11\n", "no"),
     ("10 11 (2)", "10 11 (1)", "refused C3 at 10\n", "no"),
@@ -255,24 +287,51 @@ const CHANGED: [(&str, &str, &str, &str); 11] = [
     ("evidence even", "evidence odd", "", "E2 at line 2"),
 ];
 
+/// Even's evidence with another line in the place of one.
+fn changed_even(rt: &(impl Abort + AllocGlobal), line: &str, other: &str) -> String {
+    with_line(rt.alloc(), EVEN_OF_OFTEN_A, line, other).expect(rt, "memory")
+}
+
+/// Odd's evidence without a line.
+fn odd_without(rt: &(impl Abort + AllocGlobal), line: &str) -> String {
+    with_line(rt.alloc(), ODD_OF_OFTEN_A, line, "").expect(rt, "memory")
+}
+
+/// This is told of two pieces of evidence.
+fn tells_of_both<H: Abort + Threads + Wait + AllocGlobal + Clone + Copy + Drop + Send + Sync>(
+    rt: &H,
+    first: &str,
+    second: &str,
+    text: &str,
+) {
+    tells(rt, &Asked::Both(OFTEN_A, first, second), text, "no");
+}
+
 #[test]
 fn changed_evidence_is_refused(rt: HostRuntime) {
     for (line, other, text, answer) in &CHANGED {
-        let changed = with_line(rt.alloc(), EVEN_OF_OFTEN_A, line, other).expect(&rt, "memory");
+        let changed = changed_even(&rt, line, other);
         tells(&rt, &Asked::Verify(OFTEN_A, changed.as_str()), text, answer);
     }
-    let gone = with_line(rt.alloc(), ODD_OF_OFTEN_A, "1 - (0,0)", "").expect(&rt, "memory");
-    let second = Asked::Both(OFTEN_A, EVEN_OF_OFTEN_A, gone.as_str());
-    tells(&rt, &second, "refused second C2 at 7\n", "no");
-    let first = Asked::Both(OFTEN_A, gone.as_str(), EVEN_OF_OFTEN_A);
-    tells(&rt, &first, "refused first C2 at 7\n", "no");
-    let left = with_line(rt.alloc(), ODD_OF_OFTEN_A, "7 - (0,1)", "").expect(&rt, "memory");
-    let both = Asked::Both(OFTEN_A, EVEN_OF_OFTEN_A, left.as_str());
-    tells(&rt, &both, "refused C5 at 7\n", "no")
+    let gone = odd_without(&rt, "1 - (0,0)");
+    tells_of_both(
+        &rt,
+        EVEN_OF_OFTEN_A,
+        gone.as_str(),
+        "refused second C2 at 7\n",
+    );
+    tells_of_both(
+        &rt,
+        gone.as_str(),
+        EVEN_OF_OFTEN_A,
+        "refused first C2 at 7\n",
+    );
+    let left = odd_without(&rt, "7 - (0,1)");
+    tells_of_both(&rt, EVEN_OF_OFTEN_A, left.as_str(), "refused C5 at 7\n")
 }
 
 /// Commands whose texts are refused, the game's before the first evidence and that before the second.
-const REFUSED: [(Asked<'static>, &str); 16] = [
+static REFUSED: [(Asked<'static>, &str); 16] = [
     (
         Asked::Normal("mu X. Y", Priorities::Nested),
         "F5 at offset 6",
@@ -315,18 +374,29 @@ fn loops(alloc: Global, last: u8) -> Result<String, AllocError> {
     Ok(text)
 }
 
+/// The winners of so many vertices that Odd wins.
+fn all_odd(alloc: Global, vertices: u32) -> Result<String, AllocError> {
+    let mut text = format!(in alloc; "vertices {vertices}\neven 0\n")?;
+    for v in 0..vertices {
+        write!(text, "{v} odd\n")?;
+    }
+    Ok(text)
+}
+
+/// The game of those loops.
+fn loops_game(rt: &(impl Abort + AllocGlobal), last: u8) -> String {
+    loops(rt.alloc(), last).expect(rt, "memory")
+}
+
 #[test]
 fn odd_wins_loops_of_odd_priorities(rt: HostRuntime) {
-    let mut wanted = String::from_str(rt.alloc(), "vertices 227\neven 0\n").expect(&rt, "memory");
-    for v in 0..227 {
-        write!(wanted, "{v} odd\n").expect(&rt, "memory");
-    }
-    let game = loops(rt.alloc(), 2).expect(&rt, "memory");
+    let wanted = all_odd(rt.alloc(), 227).expect(&rt, "memory");
+    let game = loops_game(&rt, 2);
     tells(&rt, &Asked::Solve(game.as_str()), wanted.as_str(), "yes")
 }
 
 /// Workers and boards by which a game may be solved.
-const CREWS: [(u32, u32, BoardKind); 7] = [
+static CREWS: [(u32, u32, BoardKind); 7] = [
     (1, 16, BoardKind::Packed),
     (1, 1, BoardKind::Locked),
     (2, 16, BoardKind::Auto),
@@ -349,31 +419,61 @@ fn options_of(crew: (u32, u32, BoardKind)) -> Option<Options> {
     })
 }
 
+/// All commands by these workers over this board.
+fn tell_all<H: Abort + Threads + Wait + AllocGlobal + Clone + Copy + Drop + Send + Sync>(
+    rt: &H,
+    options: &Options,
+) {
+    for (asked, text, answer) in &TOLD {
+        tells_with(rt, asked, options, (text, answer));
+    }
+}
+
+/// The command has an answer, and what it writes begins so.
+fn writes_first<H: Abort + Threads + Wait + AllocGlobal + Clone + Copy + Drop + Send + Sync>(
+    rt: &H,
+    asked: &Asked<'_>,
+    options: &Options,
+    beginning: &str,
+) {
+    let mut out = Vec::new(rt.alloc());
+    let is_done = run(rt, asked, options, &mut out).is_ok();
+    holds(
+        rt,
+        beginning,
+        is_done && out.starts_with(beginning.as_bytes()),
+    );
+}
+
 #[test]
 fn any_workers_over_any_board_tell_the_same(rt: HostRuntime) {
-    let game = loops(rt.alloc(), 2).expect(&rt, "memory");
-    for crew in CREWS {
-        let options = options_of(crew).expect(&rt, "options");
-        for (asked, text, answer) in &TOLD {
-            tells_with(&rt, asked, &options, (text, answer));
-        }
-        let mut out = Vec::new(rt.alloc());
-        assert!(rt; run(&rt, &Asked::Solve(game.as_str()), &options, &mut out).is_ok());
-        assert!(rt; out.starts_with(b"vertices 227\neven 0\n0 odd\n"));
+    let game = loops_game(&rt, 2);
+    for crew in &CREWS {
+        let options = options_of(*crew).expect(&rt, "options");
+        tell_all(&rt, &options);
+        let solve = Asked::Solve(game.as_str());
+        writes_first(&rt, &solve, &options, "vertices 227\neven 0\n0 odd\n");
     }
+}
+
+/// A game that has too great ranks for the packed board.
+fn is_too_great<H: Abort + Threads + Wait + AllocGlobal + Clone + Copy + Drop + Send + Sync>(
+    rt: &H,
+    asked: &Asked<'_>,
+    workers: u32,
+) {
+    let packed = options_of((workers, 16, BoardKind::Packed)).expect(rt, "options");
+    tells_with(rt, asked, &packed, ("", "T1"));
+    let auto = options_of((workers, 16, BoardKind::Auto)).expect(rt, "options");
+    writes_first(rt, asked, &auto, "");
 }
 
 /// With one loop more of priority 1 the rank of top is 2 to the 62nd, which the packed board has no room for.
 #[test]
 fn ranks_too_great_for_the_packed_board_are_told(rt: HostRuntime) {
-    let game = loops(rt.alloc(), 3).expect(&rt, "memory");
-    let asked = Asked::Solve(game.as_str());
+    let game = loops_game(&rt, 3);
     for workers in [1, 2] {
-        let packed = options_of((workers, 16, BoardKind::Packed)).expect(&rt, "options");
-        tells_with(&rt, &asked, &packed, ("", "T1"));
-        let auto = options_of((workers, 16, BoardKind::Auto)).expect(&rt, "options");
-        let mut out = Vec::new(rt.alloc());
-        assert!(rt; run(&rt, &asked, &auto, &mut out).is_ok());
+        is_too_great(&rt, &Asked::Solve(game.as_str()), workers);
     }
 }
 
@@ -387,41 +487,57 @@ fn failing_reader(text: &str, given: usize) -> Slow<'_> {
     }
 }
 
-/// The commands of which a text fails to be read behind so many bytes.
+/// Of a formula.
+fn formula_is_unread(rt: &(impl Abort + AllocGlobal), given: usize, out: &mut Vec<u8>) {
+    let formula = failing_reader("<a>true", given);
+    let answer = normal_text(rt.alloc(), formula, Priorities::Nested, out);
+    holds(rt, "normal", matches!(&answer, Err(MuError::Read)));
+}
+
+/// Of a game that is solved.
+fn solved_is_unread<H: Abort + Threads + Wait + AllocGlobal + Clone + Copy + Drop + Send + Sync>(
+    rt: &H,
+    given: usize,
+    out: &mut Vec<u8>,
+) {
+    let answer = solve_text(rt, rt.alloc(), failing_reader(STEP, given), &OPTIONS, out);
+    answers(rt, "solve", &answer, "G7");
+}
+
+/// Of a game whose evidence is checked.
+fn game_is_unread(rt: &(impl Abort + AllocGlobal), given: usize, out: &mut Vec<u8>) {
+    let (game, evidence) = (failing_reader(STEP, given), EVEN_OF_OFTEN_A.as_bytes());
+    let answer = verify_text(rt.alloc(), game, evidence, out);
+    answers(rt, "game", &answer, "G7");
+}
+
+/// Of evidence.
+fn evidence_is_unread(rt: &(impl Abort + AllocGlobal), given: usize, out: &mut Vec<u8>) {
+    let (game, evidence) = (OFTEN_A.as_bytes(), failing_reader(EVEN_OF_OFTEN_A, given));
+    let answer = verify_text(rt.alloc(), game, evidence, out);
+    answers(rt, "evidence", &answer, "E4");
+}
+
+/// Of the second of two pieces of evidence.
+fn second_is_unread(rt: &(impl Abort + AllocGlobal), given: usize, out: &mut Vec<u8>) {
+    let (game, first) = (OFTEN_A.as_bytes(), EVEN_OF_OFTEN_A.as_bytes());
+    let second = failing_reader(ODD_OF_OFTEN_A, given);
+    let answer = verify_both_text(rt.alloc(), game, first, second, out);
+    answers(rt, "second evidence", &answer, "E4");
+}
+
+/// The commands of which a text fails to be read behind so many bytes: each tells it, and none writes anything.
 fn is_unread<H: Abort + Threads + Wait + AllocGlobal + Clone + Copy + Drop + Send + Sync>(
     rt: &H,
     given: usize,
 ) {
     let mut out = Vec::new(rt.alloc());
-    let formula = failing_reader("<a>true", given);
-    let normal = normal_text(rt.alloc(), formula, Priorities::Nested, &mut out);
-    assert!(rt; matches!(&normal, Err(MuError::Read)));
-    let game = failing_reader(STEP, given);
-    let solved = solve_text(rt, rt.alloc(), game, &OPTIONS, &mut out);
-    assert!(rt; is_shown(rt.alloc(), &solved, "G7"));
-    let game = failing_reader(STEP, given);
-    let verified = verify_text(rt.alloc(), game, EVEN_OF_OFTEN_A.as_bytes(), &mut out);
-    assert!(rt; is_shown(rt.alloc(), &verified, "G7"));
-    let evidence = failing_reader(EVEN_OF_OFTEN_A, given);
-    let verified = verify_text(rt.alloc(), OFTEN_A.as_bytes(), evidence, &mut out);
-    assert!(rt; is_shown(rt.alloc(), &verified, "E4"));
-    let (game, other) = (OFTEN_A.as_bytes(), failing_reader(ODD_OF_OFTEN_A, given));
-    let both = verify_both_text(
-        rt.alloc(),
-        game,
-        EVEN_OF_OFTEN_A.as_bytes(),
-        other,
-        &mut out,
-    );
-    assert!(rt; is_shown(rt.alloc(), &both, "E4"));
-    assert!(rt; out.is_empty());
-}
-
-fn is_shown(alloc: Global, answer: &Result<bool, MuError>, wanted: &str) -> bool {
-    match answer_text(alloc, answer) {
-        Ok(text) => text.as_str() == wanted,
-        Err(AllocError) => false,
-    }
+    formula_is_unread(rt, given, &mut out);
+    solved_is_unread(rt, given, &mut out);
+    game_is_unread(rt, given, &mut out);
+    evidence_is_unread(rt, given, &mut out);
+    second_is_unread(rt, given, &mut out);
+    holds(rt, "nothing", out.is_empty());
 }
 
 #[test]
@@ -431,33 +547,41 @@ fn failed_reads_of_commands_are_told(rt: HostRuntime) {
     }
 }
 
+/// Into so little room a beginning of the text is written.
+fn leaves_a_beginning<H: Abort + Threads + Wait + AllocGlobal + Clone + Copy + Drop + Send + Sync>(
+    rt: &H,
+    asked: &Asked<'_>,
+    text: &str,
+    room: usize,
+) {
+    let mut out = cramped(rt.alloc(), room);
+    let answer = run(rt, asked, &OPTIONS, &mut out);
+    is_cut(rt, text, room, &answer, out.taken.as_slice());
+}
+
 /// A writer without room for the whole text is given a beginning, and W1 is told.
 #[test]
 fn failed_writes_of_commands_leave_a_beginning(rt: HostRuntime) {
     for (asked, text, _) in &TOLD {
         for room in 0..text.len() {
-            let mut out = Narrow::new(rt.alloc(), 4, room);
-            out.at_end = if room % 2 == 0 {
-                AtEnd::Fails
-            } else {
-                AtEnd::TakesNothing
-            };
-            assert!(rt; matches!(run(&rt, asked, &OPTIONS, &mut out), Err(MuError::Write(_))));
-            assert!(rt; out.taken.len() == room);
-            assert!(rt; text.as_bytes().starts_with(out.taken.as_slice()), "{text}");
+            leaves_a_beginning(&rt, asked, text, room);
         }
     }
+}
+
+/// The whole text is written, or there is no answer and nothing is written.
+fn writes_all_or_nothing<
+    H: Abort + Threads + Wait + AllocGlobal + Clone + Copy + Drop + Send + Sync,
+>(rt: &H, asked: &Asked<'_>, text: &str) {
+    let mut out = ready(rt);
+    let is_done = run(rt, asked, &OPTIONS, &mut out).is_ok();
+    is_written(rt, if is_done { text } else { "" }, &out);
 }
 
 /// Each growth may be refused: nothing is written then. tests/refusals refuses each in turn.
 #[test]
 fn commands_want_memory_before_they_write(rt: HostRuntime) {
     for (asked, text, _) in &TOLD {
-        let mut out = Narrow::ready(rt.alloc(), MOST_WRITTEN).expect(&rt, "memory");
-        if run(&rt, asked, &OPTIONS, &mut out).is_ok() {
-            assert!(rt; out.taken.as_slice() == text.as_bytes(), "{text}");
-        } else {
-            assert!(rt; out.taken.is_empty(), "{text}");
-        }
+        writes_all_or_nothing(&rt, asked, text);
     }
 }

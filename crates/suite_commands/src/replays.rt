@@ -1,19 +1,15 @@
 // What the command `replay` writes, answers and refuses: the worked examples of docs/FORMATS.md, and schedules worked out by hand.
 
-use crate::common::same;
+use crate::common::{answers, cramped, holds, is_cut, is_written, ready};
 use commands::replay_text::{replay_asked, replay_text};
-use fixtures::answers::answer_text;
 use requests::error::MuError;
 use requests::request::Replay;
 use samples::readers::Slow;
 use samples::texts::RING;
-use samples::writers::{AMPLE, AtEnd, Narrow};
+use samples::writers::{AMPLE, Narrow};
 use std::io::Write;
 use std::process::Abort;
 use std::thread::Threads;
-
-/// More than a replay writes here.
-const MOST_WRITTEN: usize = 1_000;
 
 /// A formula, a schedule and a number of workers: a replay in the game of the formula on the ring of two states.
 type Asked<'a> = (&'a str, &'a str, u32);
@@ -47,9 +43,8 @@ fn tells<H: Abort + Threads + Sync + AllocGlobal>(
     answer: &str,
 ) {
     let mut out = Narrow::new(rt.alloc(), 7, AMPLE);
-    let found = answer_text(rt.alloc(), &run(rt, asked, &mut out)).expect(rt, "memory");
-    same(rt, asked.1, found.as_str(), answer);
-    assert!(rt; out.taken.as_slice() == text.as_bytes(), "{text}");
+    answers(rt, asked.1, &run(rt, asked, &mut out), answer);
+    is_written(rt, text, &out);
 }
 
 /// A read that comes late: vertex 6 is raised after worker 0 has read it, so vertex 2 is raised by an old value, and is pending again.
@@ -64,7 +59,7 @@ const QUIET: &str =
     "take 0 0\nread 0 0\nraise 0\ntake 1 1\nread 1 1\nraise 1\ntake 0 2\nread 0 5\nraise 0\ntake 1 3\nread 1 0\nraise 1\ntake 0 4\nread 0 1\nraise 0\ntake 1 5\nread 1 0\nraise 1\n";
 
 /// Schedules, and what is written of them.
-const TOLD: [(Asked<'static>, &str); 8] = [
+static TOLD: [(Asked<'static>, &str); 8] = [
     (
         ("<a>true", "take 0 4\nread 0 1\nraise 0\n", 2),
         "events 3 done 3 skipped 0\n0 (0)\n1 top\n2 (0)\n3 (0)\n4 top\n5 (0)\npending 0,1,2,3,5\nsettled yes\nquiet no\n",
@@ -108,7 +103,7 @@ fn replays_write_what_was_worked_out(rt: HostRuntime) {
 
 /// Texts that are refused: the system's before the formula's, and the schedule's last. In a line its shape comes before its worker,
 /// and that before its vertex.
-const REFUSED: [(Asked<'static>, &str); 12] = [
+static REFUSED: [(Asked<'static>, &str); 12] = [
     (("<a><a>true", "take 2 0\n", 2), "S2 at line 1"),
     (("<a><a>true", "take 0 8\n", 2), "S3 at line 1"),
     (("<a><a>true", "take 0\n", 2), "S1 at line 1"),
@@ -128,34 +123,57 @@ fn replays_pass_refusals_on(rt: HostRuntime) {
     for (asked, refusal) in &REFUSED {
         tells(&rt, *asked, "", refusal);
     }
+    refuses_first(&rt);
+}
+
+/// Of three texts that are none it is the system's that is refused.
+fn refuses_first<H: Abort + Threads + Sync + AllocGlobal>(rt: &H) {
     let mut out = Vec::new(rt.alloc());
     let (system, formula, schedule) = (b"".as_slice(), b"<a".as_slice(), b"\n".as_slice());
-    let answer = replay_text(&rt, rt.alloc(), system, formula, schedule, 2, &mut out);
-    same(
-        &rt,
-        "no system",
-        answer_text(rt.alloc(), &answer)
-            .expect(&rt, "memory")
-            .as_str(),
-        "A1 at line 1",
+    let answer = replay_text(rt, rt.alloc(), system, formula, schedule, 2, &mut out);
+    answers(rt, "no system", &answer, "A1 at line 1");
+}
+
+/// The schedule of a late read, of which the reader fails behind so many bytes.
+fn failing_schedule(given: usize) -> Slow<'static> {
+    let (left, _) = LATE.as_bytes().split_at(given.min(LATE.len()));
+    Slow {
+        left,
+        step: 3,
+        fails: true,
+    }
+}
+
+/// Nothing is written of a schedule that fails to be read behind so many bytes.
+fn is_unread<H: Abort + Threads + Sync + AllocGlobal>(rt: &H, given: usize) {
+    let mut out = Vec::new(rt.alloc());
+    let (system, formula) = (RING.as_bytes(), b"<a>true".as_slice());
+    let schedule = failing_schedule(given);
+    let answer = replay_text(rt, rt.alloc(), system, formula, schedule, 2, &mut out);
+    holds(
+        rt,
+        LATE,
+        matches!(&answer, Err(MuError::Read)) && out.is_empty(),
     );
 }
 
 #[test]
 fn failed_reads_of_schedules_are_told(rt: HostRuntime) {
     for given in 0..=7 {
-        let (left, _) = LATE.as_bytes().split_at(given);
-        let schedule = Slow {
-            left,
-            step: 3,
-            fails: true,
-        };
-        let mut out = Vec::new(rt.alloc());
-        let (system, formula) = (RING.as_bytes(), b"<a>true".as_slice());
-        let answer = replay_text(&rt, rt.alloc(), system, formula, schedule, 2, &mut out);
-        assert!(rt; matches!(&answer, Err(MuError::Read)));
-        assert!(rt; out.is_empty());
+        is_unread(&rt, given);
     }
+}
+
+/// Into so little room a beginning of the text is written.
+fn leaves_a_beginning<H: Abort + Threads + Sync + AllocGlobal>(
+    rt: &H,
+    asked: Asked<'_>,
+    text: &str,
+    room: usize,
+) {
+    let mut out = cramped(rt.alloc(), room);
+    let answer = run(rt, asked, &mut out);
+    is_cut(rt, text, room, &answer, out.taken.as_slice());
 }
 
 /// A writer without room for the whole text is given a beginning, and W1 is told.
@@ -163,28 +181,26 @@ fn failed_reads_of_schedules_are_told(rt: HostRuntime) {
 fn failed_writes_of_replays_leave_a_beginning(rt: HostRuntime) {
     for (asked, text) in &TOLD {
         for room in 0..text.len() {
-            let mut out = Narrow::new(rt.alloc(), 4, room);
-            out.at_end = if room % 2 == 0 {
-                AtEnd::Fails
-            } else {
-                AtEnd::TakesNothing
-            };
-            assert!(rt; matches!(run(&rt, *asked, &mut out), Err(MuError::Write(_))));
-            assert!(rt; out.taken.len() == room);
-            assert!(rt; text.as_bytes().starts_with(out.taken.as_slice()), "{text}");
+            leaves_a_beginning(&rt, *asked, text, room);
         }
     }
+}
+
+/// The whole text is written, or there is no answer and nothing is written.
+fn writes_all_or_nothing<H: Abort + Threads + Sync + AllocGlobal>(
+    rt: &H,
+    asked: Asked<'_>,
+    text: &str,
+) {
+    let mut out = ready(rt);
+    let is_done = run(rt, asked, &mut out).is_ok();
+    is_written(rt, if is_done { text } else { "" }, &out);
 }
 
 /// Each growth may be refused: nothing is written then. tests/refusals refuses each in turn.
 #[test]
 fn replays_want_memory_before_they_write(rt: HostRuntime) {
     for (asked, text) in &TOLD {
-        let mut out = Narrow::ready(rt.alloc(), MOST_WRITTEN).expect(&rt, "memory");
-        if run(&rt, *asked, &mut out).is_ok() {
-            assert!(rt; out.taken.as_slice() == text.as_bytes(), "{text}");
-        } else {
-            assert!(rt; out.taken.is_empty(), "{text}");
-        }
+        writes_all_or_nothing(&rt, *asked, text);
     }
 }

@@ -1,6 +1,9 @@
 // Evidence that `solve` writes beside the winners: games that were solved by hand, and random ones. The checker of evidence has to accept both pieces
 // together, and then they decide who wins each vertex, whoever made them.
 
+ghost use Rattle.std.specs.Prelude.{◌<◌};
+
+use crate::common::{holds, is_unwritten, is_written};
 use commands::solve_text::solve_asked;
 use commands::verify_text::verify_both_text;
 use fixtures::texts::{EVEN_OF_STEP, ODD_OF_STEP, STEP};
@@ -8,7 +11,7 @@ use forms::priorities::Priorities;
 use measures::observer::Silent;
 use requests::error::MuError;
 use requests::request::{BoardKind, Options, Solve};
-use samples::writers::{AMPLE, AtEnd, Narrow};
+use samples::writers::{AMPLE, Narrow};
 use std::alloc::Global;
 use std::process::Abort;
 use std::sync::Wait;
@@ -36,12 +39,22 @@ struct Written {
 
 impl Written {
     /// Nothing yet, with room for so many bytes of each text.
-    fn new(alloc: Global, rooms: (usize, usize, usize)) -> Written {
+    fn new(alloc: Global, rooms: [usize; 3]) -> Written {
+        let [even, odd, winners] = rooms;
         Written {
-            even: Narrow::new(alloc, 7, rooms.0),
-            odd: Narrow::new(alloc, 7, rooms.1),
-            winners: Narrow::new(alloc, 7, rooms.2),
+            even: Narrow::new(alloc, 7, even),
+            odd: Narrow::new(alloc, 7, odd),
+            winners: Narrow::new(alloc, 7, winners),
         }
+    }
+
+    /// How much was written of each text.
+    fn lengths(&self) -> [usize; 3] {
+        [
+            self.even.taken.len(),
+            self.odd.taken.len(),
+            self.winners.taken.len(),
+        ]
     }
 
     /// Solves the game, and writes all.
@@ -64,7 +77,7 @@ impl Written {
 }
 
 /// A game's text, who wins each vertex, and what is said of both pieces of evidence.
-const GAMES: [(&str, &str, &str); 4] = [
+static GAMES: [(&str, &str, &str); 4] = [
     (
         STEP,
         "vertices 6\neven 4\n0 even\n1 odd\n2 even\n3 even\n4 odd\n5 even\n",
@@ -87,66 +100,81 @@ const GAMES: [(&str, &str, &str); 4] = [
     ),
 ];
 
+/// The game is solved, and this is written of who wins.
+fn solves<H: Abort + Threads + Wait + AllocGlobal + Clone + Copy + Drop + Send + Sync>(
+    rt: &H,
+    all: &mut Written,
+    game: &str,
+    winners: &str,
+) {
+    holds(rt, game, matches!(all.solve(rt, game), Ok(true)));
+    is_written(rt, winners, &all.winners);
+}
+
+/// This is said of both pieces of evidence that were written of the game.
+fn is_verified(rt: &(impl Abort + AllocGlobal), all: &Written, game: &str, verdict: &str) {
+    let mut told = Vec::new(rt.alloc());
+    let (even, odd) = (all.even.taken.as_slice(), all.odd.taken.as_slice());
+    let answer = verify_both_text(rt.alloc(), game.as_bytes(), even, odd, &mut told);
+    holds(rt, game, matches!(answer, Ok(true)));
+    holds(rt, game, told.as_slice() == verdict.as_bytes());
+}
+
 #[test]
 fn evidence_is_accepted(rt: HostRuntime) {
     for (game, winners, verdict) in &GAMES {
-        let mut all = Written::new(rt.alloc(), (AMPLE, AMPLE, AMPLE));
-        assert!(rt; matches!(all.solve(&rt, game), Ok(true)), "{game}");
-        assert!(rt;
-            all.winners.taken.as_slice() == winners.as_bytes(),
-            "{game}"
-        );
-        let mut told = Vec::new(rt.alloc());
-        let (even, odd) = (all.even.taken.as_slice(), all.odd.taken.as_slice());
-        let answer = verify_both_text(rt.alloc(), game.as_bytes(), even, odd, &mut told);
-        assert!(rt; matches!(answer, Ok(true)), "{game}");
-        assert!(rt; told.as_slice() == verdict.as_bytes(), "{game}");
+        let mut all = Written::new(rt.alloc(), [AMPLE; 3]);
+        solves(&rt, &mut all, game, winners);
+        is_verified(&rt, &all, game, verdict);
     }
 }
 
 /// Where each vertex has one move, and no rank has to count more than one vertex, it is that which was worked out.
 #[test]
 fn evidence_is_that_worked_out(rt: HostRuntime) {
-    let mut all = Written::new(rt.alloc(), (AMPLE, AMPLE, AMPLE));
-    assert!(rt; all.solve(&rt, STEP).is_ok());
-    assert!(rt; all.even.taken.as_slice() == EVEN_OF_STEP.as_bytes());
-    assert!(rt; all.odd.taken.as_slice() == ODD_OF_STEP.as_bytes());
+    let mut all = Written::new(rt.alloc(), [AMPLE; 3]);
+    holds(&rt, STEP, all.solve(&rt, STEP).is_ok());
+    is_written(&rt, EVEN_OF_STEP, &all.even);
+    is_written(&rt, ODD_OF_STEP, &all.odd);
+}
+
+/// The text at this place is cut behind nine bytes, those before it are longer, and those after it shorter.
+fn are_cut_at(rt: &impl Abort, lengths: [usize; 3], at: usize)
+    requires { at < 3 }
+{
+    assert!(rt; lengths[at] == 9);
+    for text in 0..3 {
+        assert!(rt; text == at || (lengths[text] > 9) == (text < at));
+    }
+}
+
+/// The texts of a game, of which the one at this place has room for nine bytes.
+fn is_cut_at<H: Abort + Threads + Wait + AllocGlobal + Clone + Copy + Drop + Send + Sync>(
+    rt: &H,
+    at: usize,
+)
+    requires { at < 3 }
+{
+    let mut rooms = [AMPLE; 3];
+    rooms[at] = 9;
+    let mut all = Written::new(rt.alloc(), rooms);
+    holds(rt, STEP, is_unwritten(&all.solve(rt, STEP)));
+    are_cut_at(rt, all.lengths(), at);
 }
 
 /// A text that isn't written whole stops the others: those before it are whole, and those after it empty.
 #[test]
 fn texts_are_written_one_after_another(rt: HostRuntime) {
     for at in 0..3 {
-        let rooms = [AMPLE; 3];
-        let room = |text: usize| if text == at { 9 } else { rooms[text] };
-        let mut all = Written::new(rt.alloc(), (room(0), room(1), room(2)));
-        all.even.at_end = AtEnd::Fails;
-        all.odd.at_end = AtEnd::Fails;
-        all.winners.at_end = AtEnd::Fails;
-        let answer = all.solve(&rt, STEP);
-        assert!(rt; matches!(answer, Err(MuError::Write(_))));
-        let lengths = [
-            all.even.taken.len(),
-            all.odd.taken.len(),
-            all.winners.taken.len(),
-        ];
-        assert!(rt; lengths[at] == 9);
-        for text in 0..3 {
-            assert!(rt; text == at || (lengths[text] > 9) == (text < at));
-        }
+        is_cut_at(&rt, at);
     }
 }
 
 /// Nothing is written of a text that is no game.
 #[test]
 fn refused_games_leave_nothing(rt: HostRuntime) {
-    let mut all = Written::new(rt.alloc(), (AMPLE, AMPLE, AMPLE));
-    assert!(rt;
-        matches!(
-            all.solve(&rt, "parity 1;\n0 0 0 0;\n"),
-            Err(MuError::Game(_))
-        )
-    );
-    assert!(rt; all.even.taken.is_empty() && all.odd.taken.is_empty());
-    assert!(rt; all.winners.taken.is_empty());
+    let mut all = Written::new(rt.alloc(), [AMPLE; 3]);
+    let answer = all.solve(&rt, "parity 1;\n0 0 0 0;\n");
+    holds(&rt, "no game", matches!(&answer, Err(MuError::Game(_))));
+    holds(&rt, "no game", all.lengths() == [0, 0, 0]);
 }

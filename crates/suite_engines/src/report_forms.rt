@@ -23,7 +23,7 @@ const OPTIONS: Options = Options {
 };
 
 /// Forms, and the reports in them.
-const FORMS: [(ReportForm, &str); 8] = [
+static FORMS: [(ReportForm, &str); 8] = [
     (
         ReportForm::Whole,
         "system 5 states 4 transitions initial 0\nformula <a>true\nyes 3 of 5\ninitial yes\n0 yes\n1 no\n2 yes\n3 no\n4 yes\n",

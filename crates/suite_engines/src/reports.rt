@@ -54,7 +54,7 @@ const BY_TWO: Options = Options {
 /// A system, a formula, what that is written as, and the marks of the states.
 type Row<'a> = (&'a str, &'a str, &'a str, &'a str);
 
-const WORKED_OUT: [Row<'static>; 30] = [
+static WORKED_OUT: [Row<'static>; 30] = [
     (RING, "<a>true", "<a>true", "yn"),
     (RING, "mu X. X", "(mu X. X)", "nn"),
     (RING, "nu X. X", "(nu X. X)", "yy"),
@@ -131,7 +131,7 @@ enum Engine {
     Two,
 }
 
-const ENGINES: [Engine; 4] = [Engine::Plain, Engine::One, Engine::Game, Engine::Two];
+static ENGINES: [Engine; 4] = [Engine::Plain, Engine::One, Engine::Game, Engine::Two];
 
 fn run<W: io::Write, R: Abort + AllocGlobal + Threads + Wait + Clone + Copy + Drop + Send + Sync>(
     rt: &R,
@@ -266,7 +266,7 @@ pub fn outcome_text(alloc: Global, answer: &Result<bool, MuError>) -> Result<Str
 }
 
 /// Systems, formulas, and what is refused.
-const REFUSED: [(&str, &str, &str); 14] = [
+static REFUSED: [(&str, &str, &str); 14] = [
     ("des (0,2,2)\n(0,\"a\",1)\n", "true", "A5 at line 3"),
     ("des (0,2,2)\n(0,\"a\",1)\n(1,\"b", "true", "A2 at line 3"),
     (
@@ -331,7 +331,7 @@ fn passes_refusals_on(rt: HostRuntime) {
 type Parts = (&'static str, &'static str, usize, &'static str);
 
 /// Systems, formulas, and how a game is refused.
-const TOO_LARGE: [(&str, Parts, &str); 3] = [
+static TOO_LARGE: [(&str, Parts, &str); 3] = [
     ("des (0,0,1000000)\n", ("", "<a>", 16, "true"), "B1"),
     (RING, ("<c><c><c><c><", "(a+b).", 9, "(a+b)>true"), "N1"),
     (RING, ("", "nu X. mu X. ", 16, "true"), "N2"),
@@ -357,7 +357,7 @@ fn refuses_what_is_too_large_for_a_game(rt: HostRuntime) {
 
 /// Formulas at a limit: what each is written as, with how many parentheses before its end, and the marks on the ring. They
 /// have as many nodes, as many binders and as many negations as may be.
-const AT_A_LIMIT: [(Parts, Parts, usize, &str, &str); 3] = [
+static AT_A_LIMIT: [(Parts, Parts, usize, &str, &str); 3] = [
     (
         ("<c><c><c><", "(a+b).", 9, "(a+b)>true"),
         ("<c><c><c><", "((a + b) . ", 9, "(a + b)"),

@@ -46,7 +46,7 @@ struct Row {
     edges: &'static str,
 }
 
-const ROWS: [Row; 5] = [
+static ROWS: [Row; 5] = [
     Row {
         system: RING,
         formula: "<a>true",

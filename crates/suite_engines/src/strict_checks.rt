@@ -28,7 +28,7 @@ const WANTED: Wanted = Wanted {
 };
 
 /// Formulas, what a check of them comes to, and what a strict one does.
-const ROWS: [(&str, &str, &str); 10] = [
+static ROWS: [(&str, &str, &str); 10] = [
     ("<a>true", "yes", "yes"),
     ("<b>true", "no", "no"),
     ("<c>true", "no", "no"),

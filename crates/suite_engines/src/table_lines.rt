@@ -24,7 +24,7 @@ const OPTIONS: Options = Options {
 };
 
 /// The text of a formula, its line, and the status that it comes to.
-const LINES: [(&str, &str, u8); 12] = [
+static LINES: [(&str, &str, u8); 12] = [
     ("<a>true", "yes 1 of 2 f.mcf\n", 0),
     ("<b>true", "no 1 of 2 f.mcf\n", 1),
     ("nu X. <true>X", "yes 2 of 2 f.mcf\n", 0),
@@ -45,7 +45,7 @@ const LINES: [(&str, &str, u8); 12] = [
 ];
 
 /// Formulas, their lines where the table isn't strict, and where it is. Which words are on no transition was read off the system.
-const STRICT: [(&str, &str, &str); 6] = [
+static STRICT: [(&str, &str, &str); 6] = [
     ("<a>true", "yes 1 of 2 f.mcf\n", "yes 1 of 2 f.mcf\n"),
     (
         "[true*]<true>true",

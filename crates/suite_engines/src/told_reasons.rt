@@ -40,7 +40,7 @@ const REQUEST: &str =
     "des (0,6,5)\n(0,\"ask\",1)\n(1,\"a\",2)\n(1,\"b\",4)\n(2,\"a\",3)\n(3,\"a\",1)\n(4,\"b\",1)\n";
 
 /// A system, a formula, whether the initial state satisfies it, and what is told.
-const ROWS: [(&str, &str, bool, &str); 18] = [
+static ROWS: [(&str, &str, bool, &str); 18] = [
     (
         RING,
         "[true*]<true>true",
@@ -252,7 +252,7 @@ fn refusals_and_failed_writes_are_told(rt: HostRuntime) {
 }
 
 /// A formula on the ring, and what comes of it where it is asked about strictly. Which words are on no transition was read off the system.
-const STRICT: [(&str, &str); 4] = [
+static STRICT: [(&str, &str); 4] = [
     ("<a><a>true", "no"),
     ("[true*]<true>true", "yes"),
     ("[a]<c>true && <d>true", "L1 at offset 4"),

@@ -37,7 +37,7 @@ struct Texts {
     report: &'static str,
 }
 
-const CHECKS: [Texts; 4] = [
+static CHECKS: [Texts; 4] = [
     Texts {
         system: RING,
         formula: "<a>true",

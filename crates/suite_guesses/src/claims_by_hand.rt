@@ -14,7 +14,7 @@ use samples::games::{Row, game_of_rows};
 use std::process::Abort;
 
 // Odd goes round between the first two vertices, and need not go on to the third.
-const ROUND: [Row; 3] = [
+static ROUND: [Row; 3] = [
     (Player::Odd, 1, &[1, 2]),
     (Player::Even, 0, &[0]),
     (Player::Even, 0, &[2]),

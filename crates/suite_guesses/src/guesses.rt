@@ -28,10 +28,10 @@ use std::process::Abort;
 use std::thread::Threads;
 
 // The labels of the systems: formulas name the first two.
-const LABELS: [&str; 3] = ["a", "b", "c"];
+static LABELS: [&str; 3] = ["a", "b", "c"];
 
 // Variables by the depth of their binders.
-const VARIABLES: [&str; 4] = ["W", "X", "Y", "Z"];
+static VARIABLES: [&str; 4] = ["W", "X", "Y", "Z"];
 
 // How many systems and formulas there are, and for how many of them at least nothing is left to lift.
 const QUESTIONS: u32 = 40;
@@ -47,7 +47,7 @@ const WRONG_QUESTIONS: u32 = 10;
 const LEAST_REFUSED: u32 = 37;
 
 // Closed operands, which are solved before what is around them.
-const CLOSED: [&str; 6] = [
+static CLOSED: [&str; 6] = [
     "true",
     "false",
     "(mu V. ([a]V && <true>true))",

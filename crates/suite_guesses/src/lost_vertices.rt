@@ -19,7 +19,7 @@ use std::process::Abort;
 use std::thread::Threads;
 
 // Games, and who wins each vertex.
-const GAMES: [(&[Row], &str); 11] = [
+static GAMES: [(&[Row], &str); 11] = [
     (&[(Player::Even, 0, &[0])], "e"),
     (&[(Player::Odd, 1, &[0])], "o"),
     (&[(Player::Even, 1, &[0, 1]), (Player::Odd, 0, &[1])], "ee"),

@@ -25,7 +25,7 @@ const LEAST_WHOLE_DUALS: u32 = 185;
 const MORE: u32 = 2;
 
 // Variables by the depth of their binders: leaves have those of the first four.
-const NAMES: [&str; 6] = ["W", "X", "Y", "Z", "S", "T"];
+static NAMES: [&str; 6] = ["W", "X", "Y", "Z", "S", "T"];
 
 // How many systems and formulas of five binders or six there are, how many guesses of their games at least are good as a whole, and how many of
 // those of the duals.

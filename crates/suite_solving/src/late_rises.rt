@@ -20,7 +20,7 @@ use workers::solving::solve_from;
 
 // The first three vertices are one worker's own, of which the first reads the fourth. That rises once, at its turn, the first one of another worker.
 // The fifth has its turn after that.
-const ROWS: [Row; 6] = [
+static ROWS: [Row; 6] = [
     (Player::Even, 0, &[READ]),
     (Player::Even, 0, &[1]),
     (Player::Even, 0, &[2]),

@@ -26,7 +26,7 @@ use workers::locked::solve_locked;
 use workers::solving::solve_from;
 
 // A ring on which Odd wins: its greatest priority is odd. Each vertex rises many times before it is top.
-const ODD_RING: [Row; 8] = [
+static ODD_RING: [Row; 8] = [
     (Player::Even, 1, &[1]),
     (Player::Odd, 0, &[2]),
     (Player::Even, 1, &[3]),
@@ -38,7 +38,7 @@ const ODD_RING: [Row; 8] = [
 ];
 
 // A way that Even leaves at its end, where she wins: on it the measures stay below top.
-const WAY: [Row; 6] = [
+static WAY: [Row; 6] = [
     (Player::Even, 1, &[1]),
     (Player::Odd, 1, &[2]),
     (Player::Even, 1, &[0, 3]),
@@ -51,7 +51,7 @@ const WAY: [Row; 6] = [
 // the second, but not back. Even wins all: she leaves the rings where she may, at 0 and at 8, and then there is only the way to
 // the loop. Yet she asks for less by staying until what the rings ask for has climbed past six threes: for each of them through
 // the counts of sixteen ones.
-const TWO_RINGS: [Row; 23] = [
+static TWO_RINGS: [Row; 23] = [
     (Player::Even, 1, &[1, 16]),
     (Player::Odd, 1, &[2]),
     (Player::Even, 1, &[3]),

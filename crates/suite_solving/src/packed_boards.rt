@@ -21,7 +21,7 @@ use tables::packed::PackedBoard;
 
 // The game of `<a>true` on two states, of which the first leads to the second by a, and the second to the first by b. Vertex 4
 // leads to the false sink alone.
-const DIAMOND: [Row; 6] = [
+static DIAMOND: [Row; 6] = [
     (Player::Even, 0, &[0]),
     (Player::Even, 1, &[1]),
     (Player::Even, 0, &[5]),

@@ -14,7 +14,7 @@ use std::process::Abort;
 
 // The game of `mu Z. nu Y. mu X. (<a>Z || <b>Y)` on the system whose first state leads by a to the second, which leads by b
 // to itself. All vertices are Even's.
-const NESTED: [Row; 18] = [
+static NESTED: [Row; 18] = [
     (Player::Even, 0, &[0]),
     (Player::Even, 1, &[1]),
     (Player::Even, 3, &[3]),
@@ -36,7 +36,7 @@ const NESTED: [Row; 18] = [
 ];
 
 /// Its least measures. None is top.
-pub const LEAST: [Option<[u32; 2]>; 18] = [
+pub static LEAST: [Option<[u32; 2]>; 18] = [
     Some([0, 0]),
     None,
     Some([2, 0]),
@@ -58,7 +58,7 @@ pub const LEAST: [Option<[u32; 2]>; 18] = [
 ];
 
 // Vertices, measures, and what the vertices ask for where their play goes on at those.
-const PROGS: [(u32, [u32; 2], Option<[u32; 2]>); 5] = [
+static PROGS: [(u32, [u32; 2], Option<[u32; 2]>); 5] = [
     (2, [2, 0], None),
     (4, [0, 3], Some([1, 0])),
     (4, [2, 3], None),

@@ -13,7 +13,7 @@ use std::process::Abort;
 use text::ReadFault;
 
 // The game of `<a>true` on two states, of which the first leads to the second by a, and the second to the first by b.
-pub const STEP_ROWS: [Row; 6] = [
+pub static STEP_ROWS: [Row; 6] = [
     (Player::Even, 0, &[0]),
     (Player::Even, 1, &[1]),
     (Player::Even, 0, &[5]),
@@ -23,7 +23,7 @@ pub const STEP_ROWS: [Row; 6] = [
 ];
 
 // The same of `<a><a>true`.
-pub const TWO_STEPS: [Row; 8] = [
+pub static TWO_STEPS: [Row; 8] = [
     (Player::Even, 0, &[0]),
     (Player::Even, 1, &[1]),
     (Player::Even, 0, &[6]),
@@ -87,7 +87,7 @@ fn a_late_read_does_no_harm(rt: HostRuntime) {
 }
 
 // Schedules for two workers and eight vertices, and their refusals.
-const REFUSED: [(&str, &str); 20] = [
+static REFUSED: [(&str, &str); 20] = [
     ("take 2 0\n", "S2 at line 1"),
     ("take 0 8\n", "S3 at line 1"),
     ("take 2 8\n", "S2 at line 1"),

@@ -12,7 +12,7 @@ use std::sync::{Arc, Wait};
 use std::thread::Threads;
 
 /// Systems of two states, and formulas whose fixpoints depend on each other: two of them, of either kind outermost, and three.
-const NESTED: [(&str, &str); 3] = [
+static NESTED: [(&str, &str); 3] = [
     (RING, "nu X. mu Y. (<a>X || <b>Y)"),
     (RING, "mu Y. nu X. (<a>X || <b>Y)"),
     (STAY, "mu Z. nu Y. mu X. (<a>Z || <b>Y)"),
