@@ -4,4 +4,4 @@ use Rattle.calculus.specs.View.{formula_of}
 use Rattle.calculus.specs.declared.closed.Closed.{Closed}
 
 abbrev pub closed_formula : Closed → Formula
-closed_formula f = formula_of f.tree
+closed_formula f = formula_of f.tree.value

@@ -281,7 +281,9 @@ pub fn check<
         Ok(found) => found,
         Err(error) => return Err(error),
     };
-    answer_lent!(alloc, &found, game, evidence, out)
+    let answered = answer_lent!(alloc, &found, game, evidence, out);
+    drop(found);
+    answered
 }
 
 /// Checks as `check` does, with a gate that each worker calls before each of its turns. One worker alone calls none.
@@ -317,7 +319,9 @@ pub fn check_gated<
         Ok(found) => found,
         Err(error) => return Err(error),
     };
-    answer_lent!(alloc, &found, game, evidence, out)
+    let answered = answer_lent!(alloc, &found, game, evidence, out);
+    drop(found);
+    answered
 }
 
 /// Checks by a game what was read, and writes what is wanted.
@@ -415,7 +419,9 @@ pub fn check_one<
         Ok(found) => found,
         Err(error) => return Err(error),
     };
-    answer_lent!(alloc, &found, game, evidence, out)
+    let answered = answer_lent!(alloc, &found, game, evidence, out);
+    drop(found);
+    answered
 }
 
 /// Writes what is wanted, and answers.

@@ -141,5 +141,6 @@ fn tree(alloc: Global, text: &[u8]) -> Result<State, FormulaError>
 pub fn parse(alloc: Global, text: &[u8]) -> Result<Closed, FormulaError>
     ensures { Reads Spells SpellsWithin (λ bytes f. SpellsWithin bytes f × IsAdmitted f) HasFormulaFaultAt closed_formula formula_fault_of (Some text.now) result }
 {
-    Ok(Closed::new(tree(alloc, text)?))
+    let tree = tree(alloc, text)?;
+    Ok(Closed::new(alloc, tree)?)
 }

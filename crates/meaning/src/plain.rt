@@ -165,5 +165,7 @@ pub fn plain_states(alloc: Global, lts: &Lts, formula: &Closed) -> Result<Vec<bo
         → IsGreatest lts.now.system name f marks.items) }
 {
     let term = term_of(alloc, lts, formula.tree(), false)?;
-    Ok(marks_of(alloc, lts, &term, &Environment::Empty)?)
+    let found = marks_of(alloc, lts, &term, &Environment::Empty);
+    drop(term);
+    Ok(found?)
 }

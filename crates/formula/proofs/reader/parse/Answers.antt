@@ -10,7 +10,7 @@ pub new-requires : goal.new-requires
 new-requires c = c.in_ok-tree.ensures.1
 
 pub returns : goal.returns
-returns c = promised c.args.text.now _ (subst (λ (f : Formula). SpellsWithin c.args.text.now f × IsAdmitted f) (sym c.new.ensures) c.in_ok-tree.ensures) tt
+returns c = promised c.args.text.now _ (subst (λ (f : Formula). SpellsWithin c.args.text.now f × IsAdmitted f) (sym c.in_ok-new.ensures) c.in_ok-tree.ensures) tt
 
 pub returns-in_err-tree : goal.returns-in_err-tree
 returns-in_err-tree c = promised c.args.text.now c.from_residual.result (search rules) (passed_on _ _ _ c.from_residual.ensures.1 c.in_err-tree.ensures)

@@ -7,12 +7,12 @@ use Rattle.meaning.proofs.plain.plain_states.Goals as goal
 
 pub returns-clause-least : goal.returns-clause-least
 returns-clause-least c = λ name f is.
-    is_least c.args.lts.now.system c.marks_of.ensures.known name f c.in_ok-marks_of.field-0.items (subst IsAdmitted is c.args.formula.now.admitted)
-    (subst (λ (g : Formula). MarksOf c.args.lts.now.system.states c.in_ok-marks_of.field-0.items (Satisfies c.args.lts.now.system g))
-    (c.in_ok-term.ensures.formula ∙ c.tree.ensures ∙ is) c.in_ok-marks_of.ensures.marks)
+    is_least c.args.lts.now.system c.marks_of-found.ensures.known name f c.in_ok-found.field-0.items (subst IsAdmitted is c.args.formula.now.admitted)
+    (subst (λ (g : Formula). MarksOf c.args.lts.now.system.states c.in_ok-found.field-0.items (Satisfies c.args.lts.now.system g))
+    (c.in_ok-term.ensures.formula ∙ c.tree.ensures ∙ is) c.in_ok-found.ensures.marks)
 
 pub returns-clause-greatest : goal.returns-clause-greatest
 returns-clause-greatest c = λ name f is.
-    is_greatest c.args.lts.now.system c.marks_of.ensures.known name f c.in_ok-marks_of.field-0.items (subst IsAdmitted is c.args.formula.now.admitted)
-    (subst (λ (g : Formula). MarksOf c.args.lts.now.system.states c.in_ok-marks_of.field-0.items (Satisfies c.args.lts.now.system g))
-    (c.in_ok-term.ensures.formula ∙ c.tree.ensures ∙ is) c.in_ok-marks_of.ensures.marks)
+    is_greatest c.args.lts.now.system c.marks_of-found.ensures.known name f c.in_ok-found.field-0.items (subst IsAdmitted is c.args.formula.now.admitted)
+    (subst (λ (g : Formula). MarksOf c.args.lts.now.system.states c.in_ok-found.field-0.items (Satisfies c.args.lts.now.system g))
+    (c.in_ok-term.ensures.formula ∙ c.tree.ensures ∙ is) c.in_ok-found.ensures.marks)
