@@ -34,7 +34,7 @@ pub(crate) trait Crew {
     fn hands(&self, size: usize) -> u32;
 
     /// Has words of states looked through.
-    fn scan(&self, scan: Scan<'_, '_>);
+    fn scan(&self, scan: Scan<'_, '_, '_>);
 
     /// Has edges sorted by their targets' buckets.
     fn sort(&self, sorting: Sorting<'_, '_>);
@@ -59,7 +59,7 @@ impl Crew for Alone {
         1
     }
 
-    fn scan(&self, scan: Scan<'_, '_>) {
+    fn scan(&self, scan: Scan<'_, '_, '_>) {
         scan.run()
     }
 
@@ -81,7 +81,7 @@ impl<R: Threads> Crew for Team<'_, R> {
         self.workers.min(most).min(MOST_HANDS)
     }
 
-    fn scan(&self, scan: Scan<'_, '_>) {
+    fn scan(&self, scan: Scan<'_, '_, '_>) {
         let hands = self.hands(scan.size());
         share(self.rt, scan, hands)
     }

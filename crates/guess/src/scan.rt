@@ -18,8 +18,8 @@ pub(crate) enum Sought<'a> {
 /// Words of states in a row, of which the first one has this number, with the cursors of their states, if these are wanted. In all words so many
 /// states are looked at.
 #[derive(Drop)]
-pub(crate) struct Scan<'a, 'w> {
-    pub(crate) sought: Sought<'a>,
+pub(crate) struct Scan<'a, 's, 'w> {
+    pub(crate) sought: &'s Sought<'a>,
     pub(crate) states: u32,
     pub(crate) first: u32,
     pub(crate) words: &'w mut [u64],
@@ -29,15 +29,15 @@ pub(crate) struct Scan<'a, 'w> {
 impl Sought<'_> {
     // The states of a word.
     #[inline(always)]
-    fn within(self, word: u32, cursors: &mut [u32]) -> u64 {
+    fn within(&self, word: u32, cursors: &mut [u32]) -> u64 {
         match self {
             Sought::Reached(pull) => pull.reached(word, cursors),
-            Sought::Topped(board, node, operand) => topped(board, node, operand, word),
+            Sought::Topped(board, node, operand) => topped(board, *node, *operand, word),
         }
     }
 }
 
-impl Task for Scan<'_, '_> {
+impl Task for Scan<'_, '_, '_> {
     fn size(&self) -> usize {
         self.states as usize
     }
@@ -83,7 +83,7 @@ impl Task for Scan<'_, '_> {
     }
 }
 
-fn look_through(sought: Sought<'_>, first: u32, words: &mut [u64], cursors: &mut [u32]) {
+fn look_through(sought: &Sought<'_>, first: u32, words: &mut [u64], cursors: &mut [u32]) {
     for at in 0..words.len() {
         let start = at.saturating_mul(WORD as usize).min(cursors.len());
         let end = start.saturating_add(WORD as usize).min(cursors.len());

@@ -449,18 +449,18 @@ impl Sets {
     /// Carries states on from those that are left.
     pub(crate) fn pull<C: Crew>(&mut self, crew: &C, board: &Board, step: Step) {
         let states = self.states_left(board, step);
-        let pull = Pull {
+        if step.wait == Wait::All {
+            self.moved.set(step.node, 1);
+        }
+        let sought = Sought::Reached(Pull {
             board,
             step,
             done: &self.done,
             open: &self.open,
             fronts: &self.fronts,
-        };
-        if step.wait == Wait::All {
-            self.moved.set(step.node, 1);
-        }
+        });
         crew.scan(Scan {
-            sought: Sought::Reached(pull),
+            sought: &sought,
             states,
             first: 0,
             words: self.found.as_mut_slice(),

@@ -73,7 +73,7 @@ impl Board {
         let mut stock = Stock::new(self.alloc);
         let mut found = Words::filled(&mut stock, 0, self.tops.width() as usize);
         crew.scan(Scan {
-            sought: Sought::Topped(self, node, operand),
+            sought: &Sought::Topped(self, node, operand),
             states: self.states,
             first: 0,
             words: found.as_mut_slice(),
