@@ -1,5 +1,6 @@
 // Short lines that are written many at a time. The numbers are counted by hand: 8,192 bytes wait at the most.
 
+use crate::common::holds;
 use samples::writers::{AMPLE, Narrow};
 use std::io;
 use std::io::Write;
@@ -56,14 +57,12 @@ fn a_thousand_short_lines_take_two_writes(rt: HostRuntime) {
         count: 1000,
         line: b"0123456789\n",
     };
-    assert!(rt; put_lines(&lines, &mut out).is_ok());
-    assert!(rt; out.writes == 2);
-    assert!(rt; out.taken.len() == 11_000);
-    assert!(rt;
-        out.taken
+    holds!(&rt; put_lines(&lines, &mut out).is_ok());
+    holds!(&rt; out.writes == 2);
+    holds!(&rt; out.taken.len() == 11_000);
+    holds!(&rt; out.taken
             .chunks(11)
-            .all(|line| line == b"0123456789\n".as_slice())
-    );
+            .all(|line| line == b"0123456789\n".as_slice()));
 }
 
 #[test]
@@ -77,9 +76,9 @@ fn a_line_that_has_no_room_is_written_by_itself(rt: HostRuntime) {
         count: 3,
         line: long.as_slice(),
     };
-    assert!(rt; put_lines(&lines, &mut out).is_ok());
-    assert!(rt; out.writes == 3);
-    assert!(rt; out.taken.len() == 3 * 8193);
+    holds!(&rt; put_lines(&lines, &mut out).is_ok());
+    holds!(&rt; out.writes == 3);
+    holds!(&rt; out.taken.len() == 3 * 8193);
 }
 
 #[test]
@@ -92,8 +91,8 @@ fn no_lines_take_no_write(rt: HostRuntime) {
         count: 0,
         line: b"line\n",
     };
-    assert!(rt; put_lines(&lines, &mut out).is_ok());
-    assert!(rt; out.writes == 0);
+    holds!(&rt; put_lines(&lines, &mut out).is_ok());
+    holds!(&rt; out.writes == 0);
 }
 
 #[test]
@@ -104,10 +103,10 @@ fn a_writer_that_is_full_keeps_a_beginning(rt: HostRuntime) {
     };
     for room in [0, 1, 8183, 8184, 8185, 10_999] {
         let mut out = Narrow::new(rt.alloc(), 100, room);
-        assert!(rt; put_lines(&lines, &mut out).is_err());
-        assert!(rt; out.taken.len() == room);
+        holds!(&rt; put_lines(&lines, &mut out).is_err());
+        holds!(&rt; out.taken.len() == room);
     }
     let mut out = Narrow::new(rt.alloc(), 100, AMPLE);
-    assert!(rt; put_lines(&lines, &mut out).is_ok());
-    assert!(rt; out.taken.len() == 11_000);
+    holds!(&rt; put_lines(&lines, &mut out).is_ok());
+    holds!(&rt; out.taken.len() == 11_000);
 }

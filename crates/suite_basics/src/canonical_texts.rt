@@ -1,5 +1,6 @@
 // Canonical texts of formulas: parentheses were put by hand, by how tightly the mCRL2 manual says that operators bind.
 
+use crate::common::holds;
 use formula::error::FormulaError;
 use formula::print;
 use samples::texts::parsed_formula;
@@ -31,18 +32,12 @@ fn prints(alloc: Global, text: &str, room: usize, wanted: &str) -> Result<bool, 
 #[test]
 fn texts_are_canonical(rt: HostRuntime) {
     for (text, canonical) in &TEXTS {
-        assert!(rt;
-            prints(rt.alloc(), text, AMPLE, canonical).expect(&rt, "memory"),
-            "{text}"
-        );
-        assert!(rt;
-            prints(rt.alloc(), canonical, AMPLE, canonical).expect(&rt, "memory"),
-            "{canonical}"
-        );
+        holds!(&rt; prints(rt.alloc(), text, AMPLE, canonical).expect(&rt, "memory"), text);
+        holds!(&rt; prints(rt.alloc(), canonical, AMPLE, canonical).expect(&rt, "memory"), canonical);
     }
 }
 
 #[test]
 fn printing_stops_where_the_writer_is_full(rt: HostRuntime) {
-    assert!(rt; prints(rt.alloc(), OFTEN, 10, "(nu X. (mu").expect(&rt, "memory"));
+    holds!(&rt; prints(rt.alloc(), OFTEN, 10, "(nu X. (mu").expect(&rt, "memory"));
 }

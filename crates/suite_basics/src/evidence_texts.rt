@@ -2,7 +2,7 @@
 
 ghost use Rattle.std.specs.Prelude.{◌≡◌, IfOk};
 
-use crate::common::same;
+use crate::common::{holds, same};
 use evidence::error::EvidenceError;
 use evidence::evidence::Evidence;
 use evidence::make::{even_evidence, odd_evidence};
@@ -63,8 +63,8 @@ fn with_line(alloc: Global, text: &str, line: &str, other: &str) -> Result<Strin
 fn says(rt: &(impl Abort + AllocGlobal), game: &Game, text: &str, wanted: &str) {
     let evidence = read(rt.alloc(), game, text).expect(rt, "memory");
     let mut out = Narrow::new(rt.alloc(), 3, AMPLE);
-    assert!(rt; write_verdict(&evidence, verify(game, &evidence), &mut out).is_ok());
-    assert!(rt; out.taken.as_slice() == wanted.as_bytes(), "{text}");
+    holds!(rt; write_verdict(&evidence, verify(game, &evidence), &mut out).is_ok());
+    holds!(rt; out.taken.as_slice() == wanted.as_bytes(), text);
 }
 
 // A line of Even's evidence, what stands in its place, and what the checker says then. In the last one no rank is the least.
@@ -114,15 +114,12 @@ fn writes(rt: &(impl Abort + AllocGlobal), game: &Game, text: &str, wanted: &str
 // By writers that take some bytes at a time, or that have too little room, which hold a beginning then.
 fn is_written(rt: &(impl Abort + AllocGlobal), evidence: &Evidence, wanted: &str) {
     let mut whole = Narrow::new(rt.alloc(), 5, AMPLE);
-    assert!(rt; write_evidence(evidence, &mut whole).is_ok());
-    assert!(rt; whole.taken.as_slice() == wanted.as_bytes(), "{wanted}");
+    holds!(rt; write_evidence(evidence, &mut whole).is_ok());
+    holds!(rt; whole.taken.as_slice() == wanted.as_bytes(), wanted);
     for room in 0..wanted.len() {
         let mut out = Narrow::new(rt.alloc(), 4, room);
-        assert!(rt; write_evidence(evidence, &mut out).is_err());
-        assert!(rt;
-            out.taken.as_slice() == &wanted.as_bytes()[..room],
-            "{wanted}"
-        );
+        holds!(rt; write_evidence(evidence, &mut out).is_err());
+        holds!(rt; out.taken.as_slice() == &wanted.as_bytes()[..room], wanted);
     }
 }
 
@@ -131,7 +128,7 @@ fn is_written(rt: &(impl Abort + AllocGlobal), evidence: &Evidence, wanted: &str
 fn made_evidence_is_written(rt: HostRuntime) {
     for (formula, even, odd) in &[(OFTEN_A, EVEN, ODD), ("<a>true", EVEN_OF_STEP, ODD_OF_STEP)] {
         let game = game_of_formula(&rt, formula);
-        assert!(rt; greatest_priority(&game) <= 31);
+        holds!(&rt; greatest_priority(&game) <= 31);
         let settled = solve_one(rt.alloc(), &game).expect(&rt, "memory");
         is_written(
             &rt,
@@ -251,7 +248,7 @@ fn failed_reads_are_told(rt: HostRuntime) {
             fails: true,
         };
         let read = read_evidence(rt.alloc(), reader, &game);
-        assert!(rt; matches!(read, Err(EvidenceError::Read)));
+        holds!(&rt; matches!(read, Err(EvidenceError::Read)));
     }
 }
 
@@ -267,8 +264,8 @@ fn says_of_two(
     let second = read(rt.alloc(), game, second).expect(rt, "memory");
     let mut out = Narrow::new(rt.alloc(), 3, AMPLE);
     let both = check_both(game, &first, &second);
-    assert!(rt; write_both(&first, &second, both, &mut out).is_ok());
-    assert!(rt; out.taken.as_slice() == wanted.as_bytes(), "{wanted}");
+    holds!(rt; write_both(&first, &second, both, &mut out).is_ok());
+    holds!(rt; out.taken.as_slice() == wanted.as_bytes(), wanted);
 }
 
 #[test]

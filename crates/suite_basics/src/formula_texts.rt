@@ -1,7 +1,7 @@
 // Texts of formulas and what is wrong with them: the mcf format of the mCRL2 manual, with its limits and codes as
 // docs/FORMATS.md has them. Offsets were counted by hand.
 
-use crate::common::same;
+use crate::common::{holds, same};
 use formula::parse;
 use samples::texts::repeated_text;
 use std::alloc::{AllocError, Global};
@@ -109,6 +109,6 @@ fn limits_are_met_exactly(rt: HostRuntime) {
 fn want_of_memory_is_told_as_such(rt: HostRuntime) {
     let text = "nu X. [(a|b + \"c\")*](mu Y. (<a>X || <b . c>!!Y))";
     if let Ok(told) = refusal(rt.alloc(), text) {
-        assert!(rt; told.as_str() == "ok" || told.as_str() == "F9", "{told}");
+        holds!(&rt; told.as_str() == "ok" || told.as_str() == "F9", told.as_str());
     }
 }

@@ -1,7 +1,7 @@
 // Texts of games in the format of PGSolver and what is wrong with them, with the codes of docs/FORMATS.md. Games, texts and
 // lines of faults are worked examples of that format, written by hand.
 
-use crate::common::same;
+use crate::common::{holds, same};
 use game::build::build;
 use game::graph::Game;
 use game::player::Player;
@@ -175,10 +175,7 @@ fn an_interrupted_read_is_tried_again(rt: HostRuntime) {
 fn want_of_memory_is_told_as_such(rt: HostRuntime) {
     let text = "parity 2;\n2 0 0 0,1;\n0 1 1 2;\n1 2 0 1 \"x\";\n";
     if let Ok(told) = shown(rt.alloc(), text.as_bytes()) {
-        assert!(rt;
-            told.as_str() == "parity 2;\n0 1 1 2;\n1 2 0 1;\n2 0 0 0,1;\n" || told.as_str() == "G8",
-            "{told}"
-        );
+        holds!(&rt; told.as_str() == "parity 2;\n0 1 1 2;\n1 2 0 1;\n2 0 0 0,1;\n" || told.as_str() == "G8", told.as_str());
     }
 }
 
@@ -215,9 +212,9 @@ fn a_failed_write_leaves_a_beginning(rt: HostRuntime) {
         for at_end in [AtEnd::Fails, AtEnd::TakesNothing] {
             let mut out = Narrow::new(rt.alloc(), 4, room);
             out.at_end = at_end;
-            assert!(rt; write_game(&game, &mut out).is_err());
-            assert!(rt; out.taken.len() == room);
-            assert!(rt; TWO.as_bytes().starts_with(out.taken.as_slice()));
+            holds!(&rt; write_game(&game, &mut out).is_err());
+            holds!(&rt; out.taken.len() == room);
+            holds!(&rt; TWO.as_bytes().starts_with(out.taken.as_slice()));
         }
     }
 }

@@ -3,7 +3,7 @@
 
 ghost use Rattle.std.specs.Prelude.{◌≤◌};
 
-use crate::common::same;
+use crate::common::{holds, same};
 use game::build::{build, build_split};
 use game::error::BuildError;
 use game::graph::Game;
@@ -129,7 +129,7 @@ fn want_of_memory_is_told_as_such(rt: HostRuntime) {
     let (system, formula, wanted) = GAMES[0];
     for ranges in [1, 2] {
         if let Some(told) = split(&rt, system, formula, ranges) {
-            assert!(rt; told.as_str() == wanted || told.as_str() == "B2", "{told}");
+            holds!(&rt; told.as_str() == wanted || told.as_str() == "B2", told.as_str());
         }
     }
 }
@@ -141,12 +141,10 @@ const MILLION: &str = "des (0,0,1000000)\n";
 fn a_million_states_have_vertices(rt: HostRuntime) {
     let lts = system_read(rt.alloc(), MILLION).expect(&rt, "a system");
     let form = form_of(rt.alloc(), "true").expect(&rt, "a normal form");
-    assert!(rt;
-        build(&rt, rt.alloc(), &lts, &form)
+    holds!(&rt; build(&rt, rt.alloc(), &lts, &form)
             .expect(&rt, "memory")
             .vertices()
-            == 1_000_002
-    );
+            == 1_000_002);
 }
 
 // The vertex of each state with each node.
@@ -155,10 +153,10 @@ fn vertices_are_known_by_their_names(rt: HostRuntime) {
     let lts = system_read(rt.alloc(), RING).expect(&rt, "a system");
     let form = form_of(rt.alloc(), "<a>true").expect(&rt, "a normal form");
     let game = build(&rt, rt.alloc(), &lts, &form).expect(&rt, "memory");
-    assert!(rt; lts.states() == 2 && form.count() == 2);
-    assert!(rt; game.vertex_of(0, 1) == 3 && game.vertex_of(1, 0) == 4);
+    holds!(&rt; lts.states() == 2 && form.count() == 2);
+    holds!(&rt; game.vertex_of(0, 1) == 3 && game.vertex_of(1, 0) == 4);
     let rows = game.state_rows(1);
-    assert!(rt; rows.start == 4 && rows.end == 6);
+    holds!(&rt; rows.start == 4 && rows.end == 6);
 }
 
 // With seventeen nodes they don't.
@@ -180,7 +178,7 @@ fn games_are_made_by_hand(rt: HostRuntime) {
     let game = game_of_rows(&rt, &THREE).expect(&rt, "a game");
     let told = shown(rt.alloc(), &game).expect(&rt, "memory");
     same(&rt, "three", told.as_str(), "0 0 0 0\n1 1 1 0 2\n2 1 0 1\n");
-    assert!(rt; game.count(1) == 2 && game.count(40) == 0);
+    holds!(&rt; game.count(1) == 2 && game.count(40) == 0);
 }
 
 // The first of two vertices: a priority that is too great, successors that descend, one that stands twice, one that is no
@@ -196,21 +194,17 @@ const FAULTY: [Row; 5] = [
 #[test]
 fn what_is_no_game_is_told(rt: HostRuntime) {
     for faulty in FAULTY {
-        assert!(rt;
-            made(&rt, &[faulty, (Player::Odd, 0, &[0])])
+        holds!(&rt; made(&rt, &[faulty, (Player::Odd, 0, &[0])])
                 .expect(&rt, "memory")
-                .is_none()
-        );
+                .is_none());
     }
 }
 
 // A game has a vertex. One that leads to itself is enough.
 #[test]
 fn no_vertex_makes_no_game(rt: HostRuntime) {
-    assert!(rt; made(&rt, &[]).expect(&rt, "memory").is_none());
-    assert!(rt;
-        made(&rt, &[(Player::Even, 0, &[0])])
+    holds!(&rt; made(&rt, &[]).expect(&rt, "memory").is_none());
+    holds!(&rt; made(&rt, &[(Player::Even, 0, &[0])])
             .expect(&rt, "memory")
-            .is_some()
-    );
+            .is_some());
 }

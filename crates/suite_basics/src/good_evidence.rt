@@ -3,7 +3,7 @@
 
 ghost use Rattle.std.specs.Prelude.{◌≡◌, IfOk};
 
-use crate::common::same;
+use crate::common::{holds, same};
 use evidence::entries::EntryView;
 use evidence::error::EvidenceError;
 use evidence::evidence::Evidence;
@@ -70,7 +70,7 @@ fn even_of(alloc: Global, game: &Game) -> Result<Evidence, EvidenceError>
 fn shows(rt: &(impl Abort + AllocGlobal), game: &Game, evidence: &Evidence, wanted: &str)
     requires { evidence.now.game ≡ game.now }
 {
-    assert!(rt; verify(game, evidence) == Verdict::Good, "{wanted}");
+    holds!(rt; verify(game, evidence) == Verdict::Good, wanted);
     let text = shown(rt.alloc(), game, evidence).expect(rt, "memory");
     same(rt, "evidence", text.as_str(), wanted);
 }
@@ -80,21 +80,21 @@ fn checks(rt: &impl Abort, game: &Game, even: &Evidence, odd: &Evidence)
     requires even { even.now.game ≡ game.now }
     requires odd { odd.now.game ≡ game.now }
 {
-    assert!(rt; even.player() == Player::Even && odd.player() == Player::Odd);
-    assert!(rt; check_both(game, even, odd) == Both::Yes);
-    assert!(rt; check_both(game, odd, even) == Both::Yes);
-    assert!(rt; check_both(game, even, even) == Both::OnePlayer);
-    assert!(rt; check_both(game, odd, odd) == Both::OnePlayer);
+    holds!(rt; even.player() == Player::Even && odd.player() == Player::Odd);
+    holds!(rt; check_both(game, even, odd) == Both::Yes);
+    holds!(rt; check_both(game, odd, even) == Both::Yes);
+    holds!(rt; check_both(game, even, even) == Both::OnePlayer);
+    holds!(rt; check_both(game, odd, odd) == Both::OnePlayer);
 }
 
 // Even's evidence of a game, and Odd's.
 fn gives(rt: &(impl Abort + AllocGlobal), game: &Game, wanted: &Wanted, even: &Evidence)
     requires { even.now.game ≡ game.now }
 {
-    assert!(rt; greatest_priority(game) <= 31);
+    holds!(rt; greatest_priority(game) <= 31);
     let odd = odd_evidence(rt.alloc(), game).expect(rt, "memory");
     checks(rt, game, even, &odd);
-    assert!(rt; even.len() == wanted.evens && odd.len() == wanted.odds);
+    holds!(rt; even.len() == wanted.evens && odd.len() == wanted.odds);
     shows(rt, game, even, wanted.even);
     shows(rt, game, &odd, wanted.odd);
 }
@@ -121,18 +121,18 @@ fn example(rt: &(impl Abort + AllocGlobal + Threads + Sync)) -> Game {
 #[test]
 fn evidence_of_the_example(rt: HostRuntime) {
     let game = example(&rt);
-    assert!(rt; greatest_priority(&game) == 2);
+    holds!(&rt; greatest_priority(&game) == 2);
     gives_both(&rt, &game, &EXAMPLE)
 }
 
 #[test]
 fn the_dual_of_the_example(rt: HostRuntime) {
     let game = example(&rt);
-    assert!(rt; greatest_priority(&game) <= 31);
+    holds!(&rt; greatest_priority(&game) <= 31);
     let turned = dual(rt.alloc(), &game).expect(&rt, "memory");
-    assert!(rt; greatest_priority(&turned) == 3 && turned.vertices() == 16);
-    assert!(rt; turned.owner(11) == Player::Odd && turned.priority(9) == 3);
-    assert!(rt; turned.successors(11) == [12, 14].as_slice());
+    holds!(&rt; greatest_priority(&turned) == 3 && turned.vertices() == 16);
+    holds!(&rt; turned.owner(11) == Player::Odd && turned.priority(9) == 3);
+    holds!(&rt; turned.successors(11) == [12, 14].as_slice());
 }
 
 // Small games, and the evidence of each.
@@ -177,7 +177,7 @@ fn evidence_of_small_games(rt: HostRuntime) {
 fn halving(rt: &(impl Abort + AllocGlobal), vertices: u32) -> Game {
     let mut builder = GameBuilder::new(rt.alloc());
     for v in 0..vertices {
-        assert!(rt; builder.vertices() < 16_777_216);
+        holds!(rt; builder.vertices() < 16_777_216);
         let priority = if v == 0 { 0 } else { 1 };
         builder
             .push(Player::Odd, priority, &[v / 2])
@@ -189,10 +189,10 @@ fn halving(rt: &(impl Abort + AllocGlobal), vertices: u32) -> Game {
 #[test]
 fn a_million_vertices_are_verified(rt: HostRuntime) {
     let game = halving(&rt, 1_000_000);
-    assert!(rt; greatest_priority(&game) == 1);
+    holds!(&rt; greatest_priority(&game) == 1);
     let even = even_of(rt.alloc(), &game).expect(&rt, "memory");
     let odd = odd_evidence(rt.alloc(), &game).expect(&rt, "memory");
-    assert!(rt; even.len() == 1_000_000 && odd.len() == 0);
-    assert!(rt; verify(&game, &even) == Verdict::Good);
+    holds!(&rt; even.len() == 1_000_000 && odd.len() == 0);
+    holds!(&rt; verify(&game, &even) == Verdict::Good);
     checks(&rt, &game, &even, &odd);
 }

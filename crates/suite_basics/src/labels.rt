@@ -1,5 +1,6 @@
 // Labels, and which of them an action formula holds of: by the mCRL2 manual (multi-actions), worked out by hand.
 
+use crate::common::holds;
 use calculus::closed::Closed;
 use calculus::holds;
 use calculus::tree::{Reg, State};
@@ -41,10 +42,7 @@ static READINGS: [(&str, &str); 6] = [
 #[test]
 fn labels_are_read_as_names(rt: HostRuntime) {
     for (text, wanted) in &READINGS {
-        assert!(rt;
-            is_read_as(rt.alloc(), text, wanted).expect(&rt, "memory"),
-            "{text}"
-        );
+        holds!(&rt; is_read_as(rt.alloc(), text, wanted).expect(&rt, "memory"), text);
     }
 }
 

@@ -1,5 +1,6 @@
 // Lines, tokens and pieces of texts, as docs/FORMATS.md has them of all texts and of systems: worked out by hand.
 
+use crate::common::holds;
 use samples::readers::Slow;
 use samples::writers::{AMPLE, Narrow};
 use std::alloc::{AllocError, Global};
@@ -52,10 +53,7 @@ fn lines_of(alloc: Global, text: &str) -> Result<Vec<u8>, AllocError> {
 #[test]
 fn texts_have_lines(rt: HostRuntime) {
     for (text, wanted) in &LINES {
-        assert!(rt;
-            lines_of(rt.alloc(), text).expect(&rt, "memory").as_slice() == wanted.as_bytes(),
-            "{wanted}"
-        );
+        holds!(&rt; lines_of(rt.alloc(), text).expect(&rt, "memory").as_slice() == wanted.as_bytes(), wanted);
     }
 }
 
@@ -69,9 +67,9 @@ fn a_failed_read_is_no_line(rt: HostRuntime) {
     };
     let mut reader = blocks_of(rt.alloc(), slow).expect(&rt, "memory");
     let mut line = Vec::new(rt.alloc());
-    assert!(rt; next_line(&mut reader, &mut line) == Ok(true));
-    assert!(rt; line.as_slice() == b"a".as_slice());
-    assert!(rt; next_line(&mut reader, &mut line) == Err(ReadFault::Read));
+    holds!(&rt; next_line(&mut reader, &mut line) == Ok(true));
+    holds!(&rt; line.as_slice() == b"a".as_slice());
+    holds!(&rt; next_line(&mut reader, &mut line) == Err(ReadFault::Read));
 }
 
 // Lines, signs, and what follows.
@@ -160,33 +158,27 @@ fn is_quote(found: Option<(&[u8], &[u8])>, wanted: &Option<(&str, &str)>) -> boo
 #[test]
 fn signs_and_ends_are_found(rt: HostRuntime) {
     for (line, token, wanted) in &SIGNS {
-        assert!(rt;
-            is_rest(sign(line.as_bytes(), token.as_bytes()), wanted),
-            "{line}"
-        );
+        holds!(&rt; is_rest(sign(line.as_bytes(), token.as_bytes()), wanted), line);
     }
     for (line, wanted) in &ENDS {
-        assert!(rt; is_end(line.as_bytes()) == *wanted, "{line}");
+        holds!(&rt; is_end(line.as_bytes()) == *wanted, line);
     }
 }
 
 #[test]
 fn numbers_are_found(rt: HostRuntime) {
     for (line, wanted) in &NUMBERS {
-        assert!(rt; is_number(number(line.as_bytes()), wanted), "{line}");
+        holds!(&rt; is_number(number(line.as_bytes()), wanted), line);
     }
     for (line, wanted) in &BEFORE {
-        assert!(rt;
-            is_number(number_before(line.as_bytes(), b","), wanted),
-            "{line}"
-        );
+        holds!(&rt; is_number(number_before(line.as_bytes(), b","), wanted), line);
     }
 }
 
 #[test]
 fn quotes_are_found(rt: HostRuntime) {
     for (line, wanted) in &QUOTES {
-        assert!(rt; is_quote(quoted(line.as_bytes()), wanted), "{line}");
+        holds!(&rt; is_quote(quoted(line.as_bytes()), wanted), line);
     }
 }
 
@@ -206,17 +198,17 @@ fn signs_and_ends_are_read(rt: HostRuntime) {
             "des" => stream::word(&mut reader, b"des"),
             _ => stream::sign(&mut reader, b'('),
         };
-        assert!(rt; is_rest(left_by(found, reader.buffer()), wanted), "{text}");
+        holds!(&rt; is_rest(left_by(found, reader.buffer()), wanted), text);
     }
     for (text, wanted) in &TEXT_ENDS {
         let mut reader = blocks_of(rt.alloc(), text.as_bytes()).expect(&rt, "memory");
         let found = stream::has_ended(&mut reader);
-        assert!(rt; is_rest(left_by(found, reader.buffer()), wanted), "{text}");
+        holds!(&rt; is_rest(left_by(found, reader.buffer()), wanted), text);
     }
     let mut none = blocks_of(rt.alloc(), b"".as_slice()).expect(&rt, "memory");
-    assert!(rt; stream::has_line(&mut none) == Ok(false));
+    holds!(&rt; stream::has_line(&mut none) == Ok(false));
     let mut one = blocks_of(rt.alloc(), b"\n".as_slice()).expect(&rt, "memory");
-    assert!(rt; stream::has_line(&mut one) == Ok(true));
+    holds!(&rt; stream::has_line(&mut one) == Ok(true));
 }
 
 #[test]
@@ -225,18 +217,12 @@ fn numbers_are_read(rt: HostRuntime) {
     for (text, wanted) in &NUMBERS {
         let mut reader = blocks_of(rt.alloc(), text.as_bytes()).expect(&rt, "memory");
         let found = stream::number(&mut reader, &mut digits).expect(&rt, "memory");
-        assert!(rt;
-            is_number(found.map(|value| (value, reader.buffer())), wanted),
-            "{text}"
-        );
+        holds!(&rt; is_number(found.map(|value| (value, reader.buffer())), wanted), text);
     }
     for (text, wanted) in &BEFORE {
         let mut reader = blocks_of(rt.alloc(), text.as_bytes()).expect(&rt, "memory");
         let found = stream::number_before(&mut reader, b',', &mut digits).expect(&rt, "memory");
-        assert!(rt;
-            is_number(found.map(|value| (value, reader.buffer())), wanted),
-            "{text}"
-        );
+        holds!(&rt; is_number(found.map(|value| (value, reader.buffer())), wanted), text);
     }
 }
 
@@ -247,15 +233,12 @@ fn quotes_are_read_and_their_first_bytes_kept(rt: HostRuntime) {
         let mut reader = blocks_of(rt.alloc(), text.as_bytes()).expect(&rt, "memory");
         let found = stream::quoted(&mut reader, 9, &mut kept);
         let rest = left_by(found, reader.buffer());
-        assert!(rt;
-            is_quote(rest.map(|rest| (kept.as_slice(), rest)), wanted),
-            "{text}"
-        );
+        holds!(&rt; is_quote(rest.map(|rest| (kept.as_slice(), rest)), wanted), text);
     }
     let mut long = blocks_of(rt.alloc(), b"\"abcdef\",".as_slice()).expect(&rt, "memory");
-    assert!(rt; stream::quoted(&mut long, 4, &mut kept) == Ok(true));
-    assert!(rt; kept.as_slice() == b"abcd".as_slice());
-    assert!(rt; long.buffer() == b",".as_slice());
+    holds!(&rt; stream::quoted(&mut long, 4, &mut kept) == Ok(true));
+    holds!(&rt; kept.as_slice() == b"abcd".as_slice());
+    holds!(&rt; long.buffer() == b",".as_slice());
 }
 
 const PIECES: [Piece<'static>; 5] = [
@@ -279,7 +262,7 @@ fn is_put(alloc: Global, step: usize, room: usize) -> bool {
 #[test]
 fn pieces_are_put_one_after_another(rt: HostRuntime) {
     for step in [1, 7, 8192] {
-        assert!(rt; is_put(rt.alloc(), step, AMPLE));
+        holds!(&rt; is_put(rt.alloc(), step, AMPLE));
         for room in 0..JOINED.len() {
             assert!(rt; is_put(rt.alloc(), step, room), "{room}");
         }

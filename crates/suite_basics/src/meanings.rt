@@ -1,7 +1,7 @@
 // The states at which formulas hold, by sets of states: what each means by Kozen 1983 and, for regular formulas, by the
 // mCRL2 manual, worked out by hand.
 
-use crate::common::same;
+use crate::common::{holds, same};
 use calculus::closed::Closed;
 use lts::Lts;
 use meaning::plain::plain_states;
@@ -102,6 +102,6 @@ fn large_formulas_hold_too(rt: HostRuntime) {
 fn a_long_ring_leads_back(rt: HostRuntime) {
     let text = ring(rt.alloc(), 2500).expect(&rt, "memory");
     let shown = marks(&rt, text.as_str(), "[true*]<true*>(<a>true)");
-    assert!(rt; shown.len() == 2500);
-    assert!(rt; shown.as_str().bytes().all(|mark| mark == b'y'));
+    holds!(&rt; shown.len() == 2500);
+    holds!(&rt; shown.as_str().bytes().all(|mark| mark == b'y'));
 }

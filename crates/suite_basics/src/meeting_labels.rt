@@ -1,6 +1,7 @@
 // Labels whose bytes meet at one place of the reader's index: of each pair of eight bytes either may stand, and 64-bit FNV-1a agrees in its lowest
 // fifty bits on both. Another program looked for the pairs.
 
+use crate::common::holds;
 use lts::{Lts, read_aut};
 use std::alloc::{AllocError, Global};
 use std::process::Abort;
@@ -55,10 +56,10 @@ fn label_from(system: &Lts, state: u32) -> Option<&[u8]> {
 fn each_is_told_from_the_others(rt: HostRuntime) {
     let text = ring(rt.alloc()).expect(&rt, "memory");
     let system = read_aut(rt.alloc(), text.as_bytes()).expect(&rt, "a system");
-    assert!(rt; system.labels() == LABELS);
-    assert!(rt; system.transitions() == 2 * LABELS);
+    holds!(&rt; system.labels() == LABELS);
+    holds!(&rt; system.transitions() == 2 * LABELS);
     for state in 0..2 * LABELS {
         let wanted = label(rt.alloc(), state % LABELS).expect(&rt, "memory");
-        assert!(rt; label_from(&system, state as u32) == Some(wanted.as_bytes()));
+        holds!(&rt; label_from(&system, state as u32) == Some(wanted.as_bytes()));
     }
 }

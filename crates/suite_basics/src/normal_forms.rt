@@ -1,6 +1,6 @@
 // Normal forms, worked out by hand: negations moved inwards by the equations of Kozen 1983, and nodes in preorder.
 
-use crate::common::same;
+use crate::common::{holds, same};
 use calculus::closed::Closed;
 use calculus::tree::Act;
 use forms::form::Normal;
@@ -88,8 +88,8 @@ fn is_numbered(alloc: Global, text: &str, nodes: &[Row]) -> bool {
 
 #[test]
 fn nodes_are_numbered_in_preorder(rt: HostRuntime) {
-    assert!(rt; is_numbered(rt.alloc(), "<a + + b>true", &CHOICE));
-    assert!(rt; is_numbered(rt.alloc(), "!(<a>true && mu X. [b]X)", &NEGATION));
+    holds!(&rt; is_numbered(rt.alloc(), "<a + + b>true", &CHOICE));
+    holds!(&rt; is_numbered(rt.alloc(), "!(<a>true && mu X. [b]X)", &NEGATION));
 }
 
 // How many nodes are counted, how many there are and how deep binders alternate, or the refusal.
@@ -132,6 +132,6 @@ fn limits_are_met_exactly(rt: HostRuntime) {
 #[test]
 fn want_of_memory_is_told_as_such(rt: HostRuntime) {
     if let Some(told) = size(rt.alloc(), "nu X. <a|b + \"c\"*>X") {
-        assert!(rt; told.as_str() == "9 9 2" || told.as_str() == "N3", "{told}");
+        holds!(&rt; told.as_str() == "9 9 2" || told.as_str() == "N3", told.as_str());
     }
 }

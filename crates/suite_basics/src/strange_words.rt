@@ -1,6 +1,6 @@
 // Words of formulas that no label of a system has. The systems are small, and which words are strange was read off them.
 
-use crate::common::same;
+use crate::common::{holds, same};
 use hints::absent::first_absent;
 use hints::strange::{Word, strange_words};
 use samples::texts::{RING, parsed_formula, repeated_text, system_read};
@@ -97,6 +97,6 @@ fn the_first_absent_word_has_its_place(rt: HostRuntime) {
     for (system, formula, wanted) in &ABSENT {
         let system = system_read(rt.alloc(), system).expect(&rt, "a system");
         let found = first_absent(rt.alloc(), &system, formula.as_bytes());
-        assert!(rt; found.expect(&rt, "memory") == *wanted, "{formula}");
+        holds!(&rt; found.expect(&rt, "memory") == *wanted, formula);
     }
 }

@@ -1,7 +1,7 @@
 // Texts of systems and what is wrong with them: the Aldebaran format of the mCRL2 manual, with its limits and codes as
 // docs/FORMATS.md has them. States and transitions were counted by hand.
 
-use crate::common::same;
+use crate::common::{holds, same};
 use lts::{Lts, read_aut};
 use samples::readers::{Halting, Slow};
 use samples::texts::{RING, repeated_text, system_read};
@@ -143,19 +143,16 @@ fn an_interrupted_read_is_tried_again(rt: HostRuntime) {
 fn want_of_memory_is_told_as_such(rt: HostRuntime) {
     let text = "des (2,4,3)\n(2,\"c|a|b\",0)\n(0,\"tau\",2)\n(2,\"c|a|b\",0)\n(1,\"r(1)\",1)\n";
     if let Ok(told) = shown(rt.alloc(), text.as_bytes()) {
-        assert!(rt;
-            told.as_str() == "3 2 3 3" || told.as_str() == "A9",
-            "{told}"
-        );
+        holds!(&rt; told.as_str() == "3 2 3 3" || told.as_str() == "A9", told.as_str());
     }
 }
 
 // The transitions of a state, each with its label.
 fn moves(rt: &(impl Abort + AllocGlobal), lts: &Lts, state: u32) -> Vec<u8> {
     let mut text = Vec::new(rt.alloc());
-    assert!(rt; state < lts.states());
+    holds!(rt; state < lts.states());
     for transition in lts.from(state) {
-        assert!(rt; (transition.label as usize) < lts.labels());
+        holds!(rt; (transition.label as usize) < lts.labels());
         text.extend_from_slice(lts.label(transition.label).bytes)
             .expect(rt, "memory");
         text.push(b' ').expect(rt, "memory");
@@ -171,10 +168,7 @@ fn transitions_are_found_by_their_state(rt: HostRuntime) {
     )
     .expect(&rt, "a system");
     for (state, labels) in [(0, "tau "), (1, ""), (2, "a|b b b ")] {
-        assert!(rt;
-            moves(&rt, &lts, state).as_slice() == labels.as_bytes(),
-            "{labels}"
-        );
+        holds!(&rt; moves(&rt, &lts, state).as_slice() == labels.as_bytes(), labels);
     }
-    assert!(rt; lts.all().len() == 4);
+    holds!(&rt; lts.all().len() == 4);
 }

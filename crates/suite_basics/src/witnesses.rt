@@ -6,6 +6,7 @@ ghost use Rattle.forms.specs.Normal.{normal_nodes};
 ghost use Rattle.game.specs.Arena.{arena};
 ghost use Rattle.game.specs.Game.{greatest};
 
+use crate::common::holds;
 use calculus::closed::Closed;
 use evidence::make::{even_evidence, odd_evidence};
 use forms::form::Normal;
@@ -75,7 +76,7 @@ fn written(rt: &(impl Abort + AllocGlobal), system: &Lts, part: &[Transition]) -
     requires { IsInside system.now part.now }
 {
     let mut out = Narrow::new(rt.alloc(), 5, AMPLE);
-    assert!(rt; write_part(system, part, &mut out).is_ok());
+    holds!(rt; write_part(system, part, &mut out).is_ok());
     out.taken
 }
 
@@ -95,8 +96,8 @@ fn shows(rt: &(impl Abort + AllocGlobal + Threads + Sync), system: &Lts, text: &
     let bytes = written(rt, system, &part);
     let read = read_aut(rt.alloc(), bytes.as_slice()).expect(rt, "a system");
     let first = holds_at_first(rt, system, &formula);
-    assert!(rt; holds_at_first(rt, &read, &formula) == first, "{text}");
-    assert!(rt; read.states() == system.states() && read.transitions() == part.len());
+    holds!(rt; holds_at_first(rt, &read, &formula) == first, text);
+    holds!(rt; read.states() == system.states() && read.transitions() == part.len());
     bytes
 }
 
@@ -126,7 +127,7 @@ fn parts_have_what_the_answer_rests_on(rt: HostRuntime) {
     for (system, formula, wanted) in &ROWS {
         let system = system_read(rt.alloc(), system).expect(&rt, "a system");
         let bytes = shows(&rt, &system, formula);
-        assert!(rt; bytes.as_slice() == wanted.as_bytes(), "{formula}");
+        holds!(&rt; bytes.as_slice() == wanted.as_bytes(), formula);
     }
 }
 
@@ -257,8 +258,8 @@ fn drawings_are_to_the_letter(rt: HostRuntime) {
     let system = system_read(rt.alloc(), DRAWN).expect(&rt, "a system");
     for step in [1, 7, 8192] {
         let mut out = Narrow::new(rt.alloc(), step, AMPLE);
-        assert!(rt; write_drawing(&system, system.all(), &mut out).is_ok());
-        assert!(rt; out.taken.as_slice() == DRAWING.as_bytes());
+        holds!(&rt; write_drawing(&system, system.all(), &mut out).is_ok());
+        holds!(&rt; out.taken.as_slice() == DRAWING.as_bytes());
     }
 }
 
@@ -291,8 +292,8 @@ fn nodes_know_the_labels_that_pass(rt: HostRuntime) {
     let system = system_read(rt.alloc(), RING).expect(&rt, "a system");
     let form = form_of(rt.alloc(), "<a>[!a]false").expect(&rt, "a normal form");
     let sets = label_sets(rt.alloc(), &system, &form).expect(&rt, "memory");
-    assert!(rt; sets.len() == 3);
-    assert!(rt; sets[0].as_slice() == [true, false].as_slice());
-    assert!(rt; sets[1].as_slice() == [false, true].as_slice());
-    assert!(rt; sets[2].is_empty());
+    holds!(&rt; sets.len() == 3);
+    holds!(&rt; sets[0].as_slice() == [true, false].as_slice());
+    holds!(&rt; sets[1].as_slice() == [false, true].as_slice());
+    holds!(&rt; sets[2].is_empty());
 }

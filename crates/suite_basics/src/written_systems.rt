@@ -1,7 +1,7 @@
 // Canonical texts of systems, by readers and writers that fail or are slow. Transitions were put in order by hand: by
 // source, by the label's bytes and by target.
 
-use crate::common::same;
+use crate::common::{holds, same};
 use lts::{Lts, WriteFault, put, put_number, write_aut};
 use samples::texts::{RING, system_read};
 use samples::writers::{AMPLE, AtEnd, Narrow};
@@ -39,8 +39,8 @@ fn writes(rt: &(impl Abort + AllocGlobal), text: &str, wanted: &str) {
     let lts = system_read(rt.alloc(), text).expect(rt, "a system");
     for step in [1, 3, 8192] {
         let mut out = Narrow::new(rt.alloc(), step, AMPLE);
-        assert!(rt; write_aut(&lts, &mut out).is_ok());
-        assert!(rt; out.taken.as_slice() == wanted.as_bytes(), "{wanted}");
+        holds!(rt; write_aut(&lts, &mut out).is_ok());
+        holds!(rt; out.taken.as_slice() == wanted.as_bytes(), wanted);
     }
 }
 
@@ -119,21 +119,21 @@ fn an_interrupted_write_is_tried_again(rt: HostRuntime) {
     let lts = system_read(rt.alloc(), RING).expect(&rt, "a system");
     let mut out = Narrow::new(rt.alloc(), 4, AMPLE);
     out.interrupts = true;
-    assert!(rt; write_aut(&lts, &mut out).is_ok());
-    assert!(rt; out.taken.as_slice() == RING.as_bytes());
+    holds!(&rt; write_aut(&lts, &mut out).is_ok());
+    holds!(&rt; out.taken.as_slice() == RING.as_bytes());
 }
 
 // Nothing is a piece that any writer takes.
 #[test]
 fn nothing_is_written_without_a_fault(rt: HostRuntime) {
     let mut out = Narrow::new(rt.alloc(), 1, 0);
-    assert!(rt; put(&mut out, b"").is_ok());
+    holds!(&rt; put(&mut out, b"").is_ok());
 }
 
 #[test]
 fn a_number_follows_its_bytes(rt: HostRuntime) {
     let mut out = Narrow::new(rt.alloc(), 3, AMPLE);
-    assert!(rt; put_number(&mut out, b"states ", 1_000_000_u32).is_ok());
-    assert!(rt; put_number(&mut out, b"", 0_usize).is_ok());
-    assert!(rt; out.taken.as_slice() == b"states 10000000".as_slice());
+    holds!(&rt; put_number(&mut out, b"states ", 1_000_000_u32).is_ok());
+    holds!(&rt; put_number(&mut out, b"", 0_usize).is_ok());
+    holds!(&rt; out.taken.as_slice() == b"states 10000000".as_slice());
 }

@@ -4,6 +4,7 @@ ghost use Rattle.std.specs.Prelude.{◌≡◌, length};
 ghost use Rattle.game.specs.Game.{dual};
 ghost use Rattle.progress.specs.Measure.{components};
 
+use crate::common::holds;
 use game::graph::Game;
 use game::player::Player;
 use measures::claim::Claim;
@@ -54,16 +55,16 @@ fn jumps(rt: &impl Abort, game: &Game, table: &mut PlainTable, claim: &mut Claim
     requires claim { claim.old.game ≡ game.now }
     ensures { table.new.game ≡ game.now }
 {
-    assert!(rt; game.vertices() == 3 && claim.width() == 1);
+    holds!(rt; game.vertices() == 3 && claim.width() == 1);
     claim_round(claim, 0);
-    assert!(rt; !table.jump(game, claim));
-    assert!(rt; tops(table) == (false, false, false));
+    holds!(rt; !table.jump(game, claim));
+    holds!(rt; tops(table) == (false, false, false));
     claim_round(claim, 1);
-    assert!(rt; is_entered(claim));
-    assert!(rt; table.jump(game, claim));
-    assert!(rt; tops(table) == (true, true, false));
+    holds!(rt; is_entered(claim));
+    holds!(rt; table.jump(game, claim));
+    holds!(rt; tops(table) == (true, true, false));
     claim.clear();
-    assert!(rt; claim.vertices().is_empty() && table.jump(game, claim));
+    holds!(rt; claim.vertices().is_empty() && table.jump(game, claim));
 }
 
 // Lifting takes back nothing, and raises no vertex that Even wins.
@@ -71,8 +72,8 @@ fn stays(rt: &impl Abort, game: &Game, table: &mut PlainTable)
     requires { table.old.game ≡ game.now }
 {
     settle(game, table);
-    assert!(rt; game.vertices() == 3);
-    assert!(rt; tops(table) == (true, true, false));
+    holds!(rt; game.vertices() == 3);
+    holds!(rt; tops(table) == (true, true, false));
 }
 
 #[test]

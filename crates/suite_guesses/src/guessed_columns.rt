@@ -1,6 +1,7 @@
 // Guesses of who wins, as columns of words: how many are good rankings, and their marks against the sets of states by which a formula is
 // defined. That a guess is good is proved nowhere; whoever uses one has it tested.
 
+use crate::common::holds;
 use crate::guesses::{Question, roll_question};
 use calculus::closed::Closed;
 use guess::guessed::GuessedRanking;
@@ -41,7 +42,7 @@ fn is_ranked(rt: &(impl Abort + Threads + AllocGlobal + Sync), question: &Questi
     let found = root_winners(rt, rt.alloc(), lts, form, &sheet, 1);
     let found = found.expect(rt, "a good ranking");
     let marks = plain_states(rt.alloc(), lts, formula).expect(rt, "memory");
-    assert!(rt; found.as_slice() == marks.as_slice());
+    holds!(rt; found.as_slice() == marks.as_slice());
     true
 }
 
@@ -113,7 +114,7 @@ fn threads_find_the_same_winners(rt: HostRuntime) {
         let marks = plain_states(rt.alloc(), &lts, &formula).expect(&rt, "memory");
         for workers in [1, 2, 3, 7] {
             let found = marks_by(&rt, &lts, &formula, workers);
-            assert!(rt; found.as_slice() == marks.as_slice());
+            holds!(&rt; found.as_slice() == marks.as_slice());
         }
     }
 }

@@ -3,6 +3,7 @@
 
 ghost use Rattle.std.specs.Prelude.{◌<◌, ◌≤◌, length};
 
+use crate::common::holds;
 use game::graph::{Game, GameBuilder};
 use game::player::Player;
 use gauge::Gauge;
@@ -304,7 +305,7 @@ fn copies_are_counted_above_what_they_are_copies_of(rt: HostRuntime) {
 fn threads_guess_what_one_guesses_of_copies(rt: HostRuntime) {
     let game = game_of_copies(&rt, &mut Dice::new(10), 300_000, 6);
     let count = evens(&rt, &game);
-    assert!(rt; count.is_some() && count == evens_by_threads(&rt, &game));
+    holds!(&rt; count.is_some() && count == evens_by_threads(&rt, &game));
 }
 
 // A game of so many vertices, of which each leads to one, two or three.
@@ -367,7 +368,7 @@ fn evens_seen<R: Abort + AllocGlobal + Threads + Sync>(
         .expect(rt, "memory")
         .expect(rt, "a guess");
     let reading = gauge.reading().expect(rt, "a long search");
-    assert!(rt; 0 < reading.done);
+    holds!(rt; 0 < reading.done);
     evens_of(rt, game, &guessed)
 }
 
@@ -377,8 +378,8 @@ fn a_gauge_shows_a_long_search(rt: HostRuntime) {
     let mut dice = Dice::new(11);
     let game = large_game(&rt, &mut dice, 70_000, 70_000, 10);
     let found = evens(&rt, &game);
-    assert!(rt; evens_seen(&rt, &game, 1) == found);
-    assert!(rt; evens_seen(&rt, &game, 4) == found);
+    holds!(&rt; evens_seen(&rt, &game, 1) == found);
+    holds!(&rt; evens_seen(&rt, &game, 4) == found);
 }
 
 // Even has the even vertices, and Odd the odd ones.
@@ -400,7 +401,7 @@ fn on_a_ladder_each_wins_the_own_vertices(rt: HostRuntime) {
         rows.add(&rt, owner_of(v), (v % 2) as u8, &next);
     }
     let game = rows.finish(&rt);
-    assert!(rt; evens(&rt, &game) == Some(50_000));
+    holds!(&rt; evens(&rt, &game) == Some(50_000));
 }
 
 // Each vertex has its number as priority, and leads to all others. Each player goes between two of the own.
@@ -418,7 +419,7 @@ fn in_a_clique_each_wins_the_own_vertices(rt: HostRuntime) {
         rows.add(&rt, owner_of(u32::from(v)), v, others.as_slice());
     }
     let game = rows.finish(&rt);
-    assert!(rt; evens(&rt, &game) == Some(16));
+    holds!(&rt; evens(&rt, &game) == Some(16));
 }
 
 // A way of rows and a round. The way ends at a vertex that leads to itself. Before it come so many vertices of the greatest odd
@@ -450,9 +451,9 @@ fn climb(rt: &(impl Abort + AllocGlobal), levels: u8, width: u32, winner: Player
 fn who_wins_at_the_end_of_a_way_wins_the_climb(rt: HostRuntime) {
     for (levels, width) in [(1, 5), (4, 100), (15, 2_000)] {
         let game = climb(&rt, levels, width, Player::Even);
-        assert!(rt; evens(&rt, &game) == Some(game.vertices()));
+        holds!(&rt; evens(&rt, &game) == Some(game.vertices()));
         let game = climb(&rt, levels, width, Player::Odd);
-        assert!(rt; evens(&rt, &game) == Some(0));
+        holds!(&rt; evens(&rt, &game) == Some(0));
     }
 }
 
@@ -491,7 +492,7 @@ fn stairs_fall_one_by_one(rt: HostRuntime) {
         add_stair(&rt, &mut rows, stair);
     }
     let game = rows.finish(&rt);
-    assert!(rt; evens(&rt, &game).is_some());
+    holds!(&rt; evens(&rt, &game).is_some());
 }
 
 // A hub leads to each of so many vertices of priority 1. These lead to each other in turn, through vertices where the play may
@@ -513,7 +514,7 @@ fn a_hub_of_many_ways_is_evens(rt: HostRuntime) {
         rows.add(&rt, Player::Odd, 0, &[way, way + 1]);
     }
     let game = rows.finish(&rt);
-    assert!(rt; evens(&rt, &game) == Some(60_001));
+    holds!(&rt; evens(&rt, &game) == Some(60_001));
 }
 
 const LEVELS: u8 = 29;
@@ -559,5 +560,5 @@ fn a_recursive_ladder_is_guessed(rt: HostRuntime) {
         add_level(&rt, &mut rows, level);
     }
     let game = rows.finish(&rt);
-    assert!(rt; evens(&rt, &game).is_some());
+    holds!(&rt; evens(&rt, &game).is_some());
 }

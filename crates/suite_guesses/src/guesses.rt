@@ -3,6 +3,7 @@
 
 ghost use Rattle.std.specs.Prelude.{◌≡◌, ◌<◌, ◌≤◌, IfOk};
 
+use crate::common::holds;
 use crate::random_games::{is_same, lifted_alone};
 use calculus::closed::Closed;
 use claims::claimed::Claims;
@@ -219,7 +220,7 @@ pub(crate) fn ends_alike(
     settle(game, &mut table);
     let solved = solve_one_by(rt.alloc(), game, guess, &Silent).expect(rt, "memory");
     let lifted = lifted_alone(rt.alloc(), game).expect(rt, "memory");
-    assert!(rt; is_same(game, &solved, &lifted) && is_same(game, &solved, &table));
+    holds!(rt; is_same(game, &solved, &lifted) && is_same(game, &solved, &table));
     Ended {
         guessed: guess.parts(),
         accepted,
@@ -229,7 +230,7 @@ pub(crate) fn ends_alike(
 
 // Whether nothing is left to lift. All that is guessed is accepted.
 fn is_whole(rt: &impl Abort, ended: Ended) -> bool {
-    assert!(rt; ended.accepted == ended.guessed);
+    holds!(rt; ended.accepted == ended.guessed);
     ended.whole
 }
 
@@ -253,7 +254,7 @@ fn guesses_and_lifting_alone_end_alike(rt: HostRuntime) {
             whole = whole.saturating_add(1);
         }
     }
-    assert!(rt; whole >= LEAST_WHOLE, "{whole}");
+    holds!(&rt; whole >= LEAST_WHOLE, whole);
 }
 
 /// The dual of a game, where its priorities fit.
@@ -280,7 +281,7 @@ fn guesses_of_duals_and_lifting_alone_end_alike(rt: HostRuntime) {
             whole = whole.saturating_add(1);
         }
     }
-    assert!(rt; whole >= LEAST_WHOLE_DUALS, "{whole}");
+    holds!(&rt; whole >= LEAST_WHOLE_DUALS, whole);
 }
 
 // What is wrong with a guess.
@@ -392,7 +393,7 @@ fn changes_nothing(rt: &(impl Abort + AllocGlobal), question: &Question, vertex:
             vertex,
         };
         let solved = solve_one_by(rt.alloc(), game, &wrong, &Silent).expect(rt, "memory");
-        assert!(rt; is_same(game, &solved, &lifted));
+        holds!(rt; is_same(game, &solved, &lifted));
         let mut table = opening(rt.alloc(), game).expect(rt, "memory");
         let accepted = jump_to_guess(rt.alloc(), game, &mut table, &wrong).expect(rt, "memory");
         if accepted < wrong.parts() {

@@ -3,6 +3,7 @@
 
 ghost use Rattle.std.specs.Prelude.{◌≡◌, ◌<◌, ◌≤◌, length};
 
+use crate::common::holds;
 use crate::random_games::{is_same, lifted_alone};
 use certify::decide::certified_winners;
 use game::graph::{Game, GameBuilder};
@@ -102,7 +103,7 @@ fn on_a_ladder_each_wins_the_own_vertices(rt: HostRuntime) {
         assert!(rt; is_lifted(&rt, &game, EvenWins::Own), "{rungs}");
     }
     let game = ladder(&rt, 50_000).expect(&rt, "a ladder");
-    assert!(rt; is_solved(&rt, &game, EvenWins::Own) && is_certified(&rt, &game, EvenWins::Own));
+    holds!(&rt; is_solved(&rt, &game, EvenWins::Own) && is_certified(&rt, &game, EvenWins::Own));
 }
 
 // Each vertex has its number as priority, and leads to all others.
@@ -144,7 +145,7 @@ fn in_a_clique_who_has_two_vertices_wins_them(rt: HostRuntime) {
 // everywhere: Even has to leave the round at some time. Lifting alone goes round it once for each measure below the one at
 // the beginning of the way.
 fn climb(rt: &(impl Abort + AllocGlobal), rows: u8, width: u32, winner: Player) -> Option<Game> {
-    assert!(rt; rows < 16);
+    holds!(rt; rows < 16);
     let end = match winner {
         Player::Even => 2 * rows,
         Player::Odd => 2 * rows + 1,

@@ -3,6 +3,7 @@
 
 ghost use Rattle.std.specs.Prelude.{◌≡◌};
 
+use crate::common::holds;
 use game::build::build;
 use game::graph::Game;
 use game::player::Player;
@@ -161,6 +162,6 @@ fn are_trues(game: &Game, settled: &Settled) -> bool
 fn what_is_lost_is_found_at_once(rt: HostRuntime) {
     let game = branching_game(&rt);
     let settled = solve_one(rt.alloc(), &game).expect(&rt, "memory");
-    assert!(rt; game.vertices() == 2 + 6 * STATES);
-    assert!(rt; are_trues(&game, &settled));
+    holds!(&rt; game.vertices() == 2 + 6 * STATES);
+    holds!(&rt; are_trues(&game, &settled));
 }

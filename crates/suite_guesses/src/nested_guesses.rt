@@ -2,6 +2,7 @@
 
 ghost use Rattle.std.specs.Prelude.{◌<◌};
 
+use crate::common::holds;
 use crate::guesses::{HEADS, Question, dual_of, ends_alike, question_of, roll_leaf, roll_system};
 use crate::random_games::{is_same, lifted_alone};
 use claims::claimed::Claims;
@@ -256,13 +257,13 @@ fn is_path_guessed(rt: &(impl Abort + AllocGlobal + Threads + Sync), states: u32
     let turned = dual_of(rt, &game).expect(rt, "a dual");
     let solved = solve_one_by(rt.alloc(), &turned, &guess, &Silent).expect(rt, "memory");
     let lifted = lifted_alone(rt.alloc(), &turned).expect(rt, "memory");
-    assert!(rt; is_same(&turned, &solved, &lifted));
+    holds!(rt; is_same(&turned, &solved, &lifted));
     is_guessed(rt, &turned, &guess)
 }
 
 // Seven counts share a word. Along a short path all steps fit their part of it, and along a long one they don't.
 #[test]
 fn counts_that_fit_no_word_are_left_to_lifting(rt: HostRuntime) {
-    assert!(rt; is_path_guessed(&rt, 60));
-    assert!(rt; !is_path_guessed(&rt, 600));
+    holds!(&rt; is_path_guessed(&rt, 60));
+    holds!(&rt; !is_path_guessed(&rt, 600));
 }

@@ -4,6 +4,7 @@
 
 ghost use Rattle.std.specs.Prelude.{◌≡◌, ◌<◌, ◌≤◌, IfOk};
 
+use crate::common::holds;
 use certify::decide::certified_winners;
 use game::graph::Game;
 use lts::error::Memory;
@@ -103,11 +104,11 @@ fn count_whole(rt: &(impl Abort + AllocGlobal), dice: &mut Dice, games: u32) -> 
 #[test]
 fn claims_and_lifting_alone_end_alike(rt: HostRuntime) {
     let whole = count_whole(&rt, &mut Dice::new(20), 5_000);
-    assert!(rt; whole >= 4_850, "{whole}");
+    holds!(&rt; whole >= 4_850, whole);
 }
 
 #[test]
 fn claims_and_lifting_alone_end_alike_again(rt: HostRuntime) {
     let whole = count_whole(&rt, &mut Dice::new(21), 5_000);
-    assert!(rt; whole >= 4_850, "{whole}");
+    holds!(&rt; whole >= 4_850, whole);
 }

@@ -1,5 +1,6 @@
 // Rankings of arenas, made by hand: which are good, and what they tell.
 
+use crate::common::holds;
 use columns::column::{Column, Columns, Counted, Halves};
 use forms::form::Normal;
 use rankings::sheet::Sheet;
@@ -68,47 +69,43 @@ fn told_by(
 fn a_diamond_without_a_step_is_odds(rt: HostRuntime) {
     let rows = [[0, 3, 3], [0, 0, 0]];
     let found = told(&rt, "<a>true", &rows, &[0], &[1]);
-    assert!(rt; found == Some([true, false, false]));
-    assert!(rt; told(&rt, "<a>true", &[[0, 1, 3], [0, 0, 0]], &[0], &[1]) == None);
-    assert!(rt; told(&rt, "<a>true", &[[0, 0, 3], [0, 0, 0]], &[0], &[1]) == None);
-    assert!(rt; told(&rt, "<a>true", &[[3, 3, 3], [0, 0, 0]], &[0], &[1]) == None);
+    holds!(&rt; found == Some([true, false, false]));
+    holds!(&rt; told(&rt, "<a>true", &[[0, 1, 3], [0, 0, 0]], &[0], &[1]) == None);
+    holds!(&rt; told(&rt, "<a>true", &[[0, 0, 3], [0, 0, 0]], &[0], &[1]) == None);
+    holds!(&rt; told(&rt, "<a>true", &[[3, 3, 3], [0, 0, 0]], &[0], &[1]) == None);
 }
 
 // A box without a step leads to the true sink, and is Even's.
 #[test]
 fn a_box_without_a_step_is_evens(rt: HostRuntime) {
     let rows = [[3, 0, 0], [3, 3, 3]];
-    assert!(rt; told(&rt, "[a]false", &rows, &[0], &[1]) == None);
+    holds!(&rt; told(&rt, "[a]false", &rows, &[0], &[1]) == None);
     let rows = [[5, 0, 0], [3, 3, 3]];
-    assert!(rt; told(&rt, "[a]false", &rows, &[0], &[1]) == Some([false, true, true]));
-    assert!(rt; told(&rt, "[a]false", &[[5, 5, 0], [3, 3, 3]], &[0], &[1]) == None);
+    holds!(&rt; told(&rt, "[a]false", &rows, &[0], &[1]) == Some([false, true, true]));
+    holds!(&rt; told(&rt, "[a]false", &[[5, 5, 0], [3, 3, 3]], &[0], &[1]) == None);
 }
 
 // The least fixpoint that only goes on is Odd's everywhere, the greatest is Even's where a step follows a step for ever.
 #[test]
 fn fixpoints_that_only_go_on(rt: HostRuntime) {
     let least = [[3, 3, 3], [7, 7, 7], [5, 5, 5]];
-    assert!(rt; told(&rt, "mu X. <true>X", &least, &[0], &[1, 4]) == Some([false, false, false]));
-    assert!(rt;
-        told(
+    holds!(&rt; told(&rt, "mu X. <true>X", &least, &[0], &[1, 4]) == Some([false, false, false]));
+    holds!(&rt; told(
             &rt,
             "mu X. <true>X",
             &[[0, 0, 0], [0, 0, 0], [0, 0, 0]],
             &[0],
             &[1, 4]
-        ) == None
-    );
+        ) == None);
     let greatest = [[11, 5, 0], [9, 3, 0], [13, 7, 0]];
-    assert!(rt; told(&rt, "nu X. <true>X", &greatest, &[0], &[1]) == Some([false, false, true]));
-    assert!(rt;
-        told(
+    holds!(&rt; told(&rt, "nu X. <true>X", &greatest, &[0], &[1]) == Some([false, false, true]));
+    holds!(&rt; told(
             &rt,
             "nu X. <true>X",
             &[[0, 0, 0], [0, 0, 0], [0, 0, 0]],
             &[0],
             &[1]
-        ) == None
-    );
+        ) == None);
 }
 
 // A node's marks of the states that Odd wins, and the bases of both players. Even counts by twos.
@@ -167,27 +164,27 @@ fn told_by_counts(rt: &(impl Threads + AllocGlobal + Sync), rows: &[Row]) -> Opt
 #[test]
 fn nodes_that_count_by_one_list(rt: HostRuntime) {
     let good = [(4, 2, 3), (4, 0, 7), (4, 2, 5)];
-    assert!(rt; told_by_counts(&rt, &good) == Some([true, true, false]));
+    holds!(&rt; told_by_counts(&rt, &good) == Some([true, true, false]));
     let more = [(4, 4, 3), (4, 2, 7), (4, 4, 5)];
-    assert!(rt; told_by_counts(&rt, &more) == Some([true, true, false]));
+    holds!(&rt; told_by_counts(&rt, &more) == Some([true, true, false]));
     let stays = [(4, 0, 3), (4, 0, 7), (4, 0, 5)];
-    assert!(rt; told_by_counts(&rt, &stays) == None);
+    holds!(&rt; told_by_counts(&rt, &stays) == None);
     let rises = [(4, 2, 3), (4, 0, 7), (4, 0, 5)];
-    assert!(rt; told_by_counts(&rt, &rises) == None);
+    holds!(&rt; told_by_counts(&rt, &rises) == None);
     let climbs = [(4, 2, 3), (4, 0, 7), (4, 2, 3)];
-    assert!(rt; told_by_counts(&rt, &climbs) == None);
+    holds!(&rt; told_by_counts(&rt, &climbs) == None);
     let lies = [(0, 2, 3), (4, 0, 7), (4, 2, 5)];
-    assert!(rt; told_by_counts(&rt, &lies) == None);
+    holds!(&rt; told_by_counts(&rt, &lies) == None);
     let wraps = [(4, u64::MAX - 1, 3), (4, 0, 7), (4, u64::MAX - 1, 5)];
-    assert!(rt; told_by_counts(&rt, &wraps) == None);
+    holds!(&rt; told_by_counts(&rt, &wraps) == None);
 }
 
 // A sheet needs a column for each node and a number for each state, and shifts that don't fall.
 #[test]
 fn sheets_of_the_wrong_shape(rt: HostRuntime) {
     let rows = [[0, 3, 3], [0, 0, 0]];
-    assert!(rt; told(&rt, "<a>true", &rows[..1], &[0], &[1]) == None);
-    assert!(rt; told(&rt, "<a>true && true", &rows, &[0], &[1]) == None);
-    assert!(rt; told(&rt, "<a>true", &rows, &[2, 1], &[1]) == None);
-    assert!(rt; told(&rt, "<a>true", &rows, &[0], &[64]) == None);
+    holds!(&rt; told(&rt, "<a>true", &rows[..1], &[0], &[1]) == None);
+    holds!(&rt; told(&rt, "<a>true && true", &rows, &[0], &[1]) == None);
+    holds!(&rt; told(&rt, "<a>true", &rows, &[2, 1], &[1]) == None);
+    holds!(&rt; told(&rt, "<a>true", &rows, &[0], &[64]) == None);
 }
