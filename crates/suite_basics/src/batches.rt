@@ -1,8 +1,10 @@
 // Short lines that are written many at a time. The numbers are counted by hand: 8,192 bytes wait at the most.
 
+use crate::common::{holds, holds_for};
 use samples::writers::{AMPLE, Narrow};
 use std::io;
 use std::io::Write;
+use std::process::Abort;
 use text::sink::Sink;
 use text::{Lines, WriteFault, put, put_lines};
 
@@ -46,68 +48,76 @@ impl Write for Counting {
     }
 }
 
-#[test]
-fn a_thousand_short_lines_take_two_writes(rt: HostRuntime) {
-    let mut out = Counting {
+// A writer that has taken nothing.
+fn counter(rt: &impl AllocGlobal) -> Counting {
+    Counting {
         taken: Vec::new(rt.alloc()),
         writes: 0,
-    };
-    let lines = Alike {
-        count: 1000,
-        line: b"0123456789\n",
-    };
-    assert!(rt; put_lines(&lines, &mut out).is_ok());
-    assert!(rt; out.writes == 2);
-    assert!(rt; out.taken.len() == 11_000);
-    assert!(rt;
-        out.taken
-            .chunks(11)
-            .all(|line| line == b"0123456789\n".as_slice())
-    );
+    }
+}
+
+// So many lines take so many writes.
+fn takes(rt: &impl Abort, out: &mut Counting, count: usize, line: &[u8], writes: usize) {
+    let lines = Alike { count, line };
+    holds!(rt; put_lines(&lines, out).is_ok());
+    holds!(rt; out.writes == writes);
+    holds!(rt; out.taken.len() == count.saturating_mul(line.len()));
+}
+
+const SHORT: &[u8] = b"0123456789\n";
+
+// Whether a text has the short line again and again.
+fn are_short(text: &[u8]) -> bool {
+    for line in text.chunks(11) {
+        if line != SHORT {
+            return false;
+        }
+    }
+    true
+}
+
+#[test]
+fn a_thousand_short_lines_take_two_writes(rt: HostRuntime) {
+    let mut out = counter(&rt);
+    takes(&rt, &mut out, 1000, SHORT, 2);
+    holds!(&rt; are_short(out.taken.as_slice()));
+    drop(out);
 }
 
 #[test]
 fn a_line_that_has_no_room_is_written_by_itself(rt: HostRuntime) {
     let long = vec![in rt.alloc(); b'x'; 8193].expect(&rt, "memory");
-    let mut out = Counting {
-        taken: Vec::new(rt.alloc()),
-        writes: 0,
-    };
-    let lines = Alike {
-        count: 3,
-        line: long.as_slice(),
-    };
-    assert!(rt; put_lines(&lines, &mut out).is_ok());
-    assert!(rt; out.writes == 3);
-    assert!(rt; out.taken.len() == 3 * 8193);
+    takes(&rt, &mut counter(&rt), 3, long.as_slice(), 3);
+    drop(long);
 }
 
 #[test]
 fn no_lines_take_no_write(rt: HostRuntime) {
-    let mut out = Counting {
-        taken: Vec::new(rt.alloc()),
-        writes: 0,
-    };
-    let lines = Alike {
-        count: 0,
-        line: b"line\n",
-    };
-    assert!(rt; put_lines(&lines, &mut out).is_ok());
-    assert!(rt; out.writes == 0);
+    takes(&rt, &mut counter(&rt), 0, b"line\n", 0);
 }
+
+// Of a thousand short lines a writer keeps what it has room for, and a fault is told unless it is all.
+fn keeps(rt: &(impl Abort + AllocGlobal), room: usize, kept: usize) {
+    let mut out = Narrow::new(rt.alloc(), 100, room);
+    let lines = Alike {
+        count: 1000,
+        line: SHORT,
+    };
+    holds_for(
+        rt,
+        put_lines(&lines, &mut out).is_ok() == (kept == 11_000),
+        room,
+    );
+    holds_for(rt, out.taken.len() == kept, room);
+    drop(out);
+}
+
+static ROOMS: [usize; 6] = [0, 1, 8183, 8184, 8185, 10_999];
 
 #[test]
 fn a_writer_that_is_full_keeps_a_beginning(rt: HostRuntime) {
-    let lines = Alike {
-        count: 1000,
-        line: b"0123456789\n",
-    };
-    for room in [0, 1, 8183, 8184, 8185, 10_999] {
-        let mut out = Narrow::new(rt.alloc(), 100, room);
-        assert!(rt; put_lines(&lines, &mut out).is_err());
-        assert!(rt; out.taken.len() == room);
+    for room in &ROOMS {
+        keeps(&rt, *room, *room);
     }
-    let mut out = Narrow::new(rt.alloc(), 100, AMPLE);
-    assert!(rt; put_lines(&lines, &mut out).is_ok());
-    assert!(rt; out.taken.len() == 11_000);
+    keeps(&rt, AMPLE, 11_000);
 }

@@ -1,10 +1,9 @@
 // Canonical texts of formulas: parentheses were put by hand, by how tightly the mCRL2 manual says that operators bind.
 
-use formula::error::FormulaError;
+use crate::common::{formula, has_all, holds};
 use formula::print;
-use samples::texts::parsed_formula;
 use samples::writers::{AMPLE, Narrow};
-use std::alloc::Global;
+use std::process::Abort;
 
 const OFTEN: &str = "nu X. mu Y. (<a>X || <b>Y)";
 
@@ -20,29 +19,26 @@ static TEXTS: [(&str, &str); 5] = [
     ),
 ];
 
-// Whether a writer with so much room takes this of the canonical text, and a fault is told just where that isn't all.
-fn prints(alloc: Global, text: &str, room: usize, wanted: &str) -> Result<bool, FormulaError> {
-    let formula = parsed_formula(alloc, text)?;
-    let mut out = Narrow::new(alloc, 7, room);
+// A writer with so much room takes this of the canonical text, and a fault is told just where that isn't all.
+fn prints(rt: &(impl Abort + AllocGlobal), text: &str, room: usize, wanted: &str) {
+    let formula = formula(rt, text);
+    let mut out = Narrow::new(rt.alloc(), 7, room);
     let is_whole = print(&formula, &mut out).is_ok();
-    Ok(is_whole == (room == AMPLE) && out.taken.as_slice() == wanted.as_bytes())
+    drop(formula);
+    holds!(rt; is_whole == (room == AMPLE), text);
+    holds!(rt; has_all(&out, wanted), text);
+    drop(out);
 }
 
 #[test]
 fn texts_are_canonical(rt: HostRuntime) {
     for (text, canonical) in &TEXTS {
-        assert!(rt;
-            prints(rt.alloc(), text, AMPLE, canonical).expect(&rt, "memory"),
-            "{text}"
-        );
-        assert!(rt;
-            prints(rt.alloc(), canonical, AMPLE, canonical).expect(&rt, "memory"),
-            "{canonical}"
-        );
+        prints(&rt, text, AMPLE, canonical);
+        prints(&rt, canonical, AMPLE, canonical);
     }
 }
 
 #[test]
 fn printing_stops_where_the_writer_is_full(rt: HostRuntime) {
-    assert!(rt; prints(rt.alloc(), OFTEN, 10, "(nu X. (mu").expect(&rt, "memory"));
+    prints(&rt, OFTEN, 10, "(nu X. (mu");
 }

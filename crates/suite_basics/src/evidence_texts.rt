@@ -1,20 +1,20 @@
 // Texts of evidence, and what a checker says of them: the worked examples of docs/FORMATS.md, each with its game.
 
-ghost use Rattle.std.specs.Prelude.{◌≡◌, IfOk};
+ghost use Rattle.std.specs.Prelude.{◌≡◌};
 
-use crate::common::same;
+use crate::common::{failing, game_of, has_all, has_taken, holds, push_text, repeated, same, slow};
 use evidence::error::EvidenceError;
 use evidence::evidence::Evidence;
 use evidence::make::{even_evidence, odd_evidence};
 use evidence::reader::read_evidence;
 use evidence::verify::{check_both, verify};
 use evidence::writer::{write_both, write_evidence, write_verdict};
-use game::build::build;
 use game::dual::greatest_priority;
 use game::graph::Game;
 use measures::settle::solve_one;
+use measures::table::Settled;
 use samples::readers::Slow;
-use samples::texts::{RING, form_of, repeated_text, system_read};
+use samples::texts::RING;
 use samples::writers::{AMPLE, Narrow};
 use std::alloc::{AllocError, Global};
 use std::process::Abort;
@@ -35,36 +35,60 @@ const ODD_OF_STEP: &str = "evidence odd\n1 - (0)\n4 - (1)\n";
 
 // The game of a formula on the ring.
 fn game_of_formula(rt: &(impl Abort + AllocGlobal + Threads + Sync), formula: &str) -> Game {
-    let lts = system_read(rt.alloc(), RING).expect(rt, "a system");
-    let form = form_of(rt.alloc(), formula).expect(rt, "a normal form");
-    build(rt, rt.alloc(), &lts, &form).expect(rt, "memory")
+    game_of(rt, RING, formula)
 }
 
-fn read(alloc: Global, game: &Game, text: &str) -> Result<Evidence, EvidenceError>
-    ensures { IfOk result (λ e. e.game ≡ game.now) }
+fn read(rt: &(impl Abort + AllocGlobal), game: &Game, text: &str) -> Evidence
+    ensures { result.game ≡ game.now }
 {
-    read_evidence(alloc, text.as_bytes(), game)
+    read_evidence(rt.alloc(), text.as_bytes(), game).expect(rt, "memory")
 }
 
-// The text with another line in the place of one, or without it.
-fn with_line(alloc: Global, text: &str, line: &str, other: &str) -> Result<String, AllocError> {
-    let mut changed = String::new(alloc);
+fn push_lines(rt: &impl Abort, changed: &mut String, text: &str, line: &str, other: &str) {
     for old in text.lines() {
         let new = if old == line { other } else { old };
         if !new.is_empty() {
-            changed.push_str(new)?;
-            changed.push_str("\n")?;
+            push_text(rt, changed, new);
+            push_text(rt, changed, "\n");
         }
     }
-    Ok(changed)
+}
+
+// The text with another line in the place of one, or without it.
+fn with_line(rt: &(impl Abort + AllocGlobal), text: &str, line: &str, other: &str) -> String {
+    let mut changed = String::new(rt.alloc());
+    push_lines(rt, &mut changed, text, line, other);
+    changed
+}
+
+// What a checker says of evidence, which was read of a text.
+fn is_judged(
+    rt: &(impl Abort + AllocGlobal),
+    game: &Game,
+    evidence: &Evidence,
+    text: &str,
+    wanted: &str,
+)
+    requires { evidence.now.game ≡ game.now }
+{
+    let mut out = Narrow::new(rt.alloc(), 3, AMPLE);
+    holds!(rt; write_verdict(evidence, verify(game, evidence), &mut out).is_ok());
+    holds!(rt; has_all(&out, wanted), text);
+    drop(out);
 }
 
 // What a checker says of a text.
 fn says(rt: &(impl Abort + AllocGlobal), game: &Game, text: &str, wanted: &str) {
-    let evidence = read(rt.alloc(), game, text).expect(rt, "memory");
-    let mut out = Narrow::new(rt.alloc(), 3, AMPLE);
-    assert!(rt; write_verdict(&evidence, verify(game, &evidence), &mut out).is_ok());
-    assert!(rt; out.taken.as_slice() == wanted.as_bytes(), "{text}");
+    let evidence = read(rt, game, text);
+    is_judged(rt, game, &evidence, text, wanted);
+    drop(evidence);
+}
+
+// The same of the example's text with another line in the place of one.
+fn says_with(rt: &(impl Abort + AllocGlobal), game: &Game, line: &str, other: &str, wanted: &str) {
+    let text = with_line(rt, EVEN, line, other);
+    says(rt, game, text.as_str(), wanted);
+    drop(text);
 }
 
 // A line of Even's evidence, what stands in its place, and what the checker says then. In the last one no rank is the least.
@@ -86,13 +110,18 @@ static CHANGED: [(&str, &str, &str); 11] = [
 fn verdicts_of_the_example(rt: HostRuntime) {
     let game = game_of_formula(&rt, OFTEN_A);
     for (line, other, wanted) in &CHANGED {
-        let text = with_line(rt.alloc(), EVEN, line, other).expect(&rt, "memory");
-        says(&rt, &game, text.as_str(), wanted);
+        says_with(&rt, &game, line, other, wanted);
     }
     says(&rt, &game, ODD, "verified odd 3 of 16\n");
-    let step = game_of_formula(&rt, "<a>true");
-    says(&rt, &step, EVEN_OF_STEP, "verified even 4 of 6\n");
-    says(&rt, &step, ODD_OF_STEP, "verified odd 2 of 6\n")
+    drop(game);
+}
+
+#[test]
+fn verdicts_of_a_step(rt: HostRuntime) {
+    let game = game_of_formula(&rt, "<a>true");
+    says(&rt, &game, EVEN_OF_STEP, "verified even 4 of 6\n");
+    says(&rt, &game, ODD_OF_STEP, "verified odd 2 of 6\n");
+    drop(game);
 }
 
 // Lines in any order, the last end missing.
@@ -102,62 +131,114 @@ fn lines_stand_in_any_order(rt: HostRuntime) {
     let turned = "evidence even\n5 0 (0)\n0 0 (0)\n3 0 (0)\n2 5 (0)";
     says(&rt, &game, turned, "verified even 4 of 6\n");
     says(&rt, &game, "evidence odd", "verified odd 0 of 6\n");
-    writes(&rt, &game, turned, EVEN_OF_STEP)
+    writes(&rt, &game, turned, EVEN_OF_STEP);
+    drop(game);
 }
 
 // The evidence of a text is written as the other text.
 fn writes(rt: &(impl Abort + AllocGlobal), game: &Game, text: &str, wanted: &str) {
-    let evidence = read(rt.alloc(), game, text).expect(rt, "memory");
+    let evidence = read(rt, game, text);
     is_written(rt, &evidence, wanted);
+    drop(evidence);
 }
 
-// By writers that take some bytes at a time, or that have too little room, which hold a beginning then.
-fn is_written(rt: &(impl Abort + AllocGlobal), evidence: &Evidence, wanted: &str) {
+// By a writer that takes some bytes at a time.
+fn is_written_whole(rt: &(impl Abort + AllocGlobal), evidence: &Evidence, wanted: &str) {
     let mut whole = Narrow::new(rt.alloc(), 5, AMPLE);
-    assert!(rt; write_evidence(evidence, &mut whole).is_ok());
-    assert!(rt; whole.taken.as_slice() == wanted.as_bytes(), "{wanted}");
+    holds!(rt; write_evidence(evidence, &mut whole).is_ok());
+    holds!(rt; whole.taken.as_slice() == wanted.as_bytes(), wanted);
+    drop(whole);
+}
+
+// By a writer that has too little room, which holds a beginning then.
+fn is_cut(rt: &(impl Abort + AllocGlobal), evidence: &Evidence, wanted: &str, room: usize) {
+    let mut out = Narrow::new(rt.alloc(), 4, room);
+    holds!(rt; write_evidence(evidence, &mut out).is_err());
+    holds!(rt; has_taken(&out, room, wanted), wanted);
+    drop(out);
+}
+
+// By writers that take some bytes at a time, or that have too little room.
+fn is_written(rt: &(impl Abort + AllocGlobal), evidence: &Evidence, wanted: &str) {
+    is_written_whole(rt, evidence, wanted);
     for room in 0..wanted.len() {
-        let mut out = Narrow::new(rt.alloc(), 4, room);
-        assert!(rt; write_evidence(evidence, &mut out).is_err());
-        assert!(rt;
-            out.taken.as_slice() == &wanted.as_bytes()[..room],
-            "{wanted}"
-        );
+        is_cut(rt, evidence, wanted, room);
     }
+}
+
+fn solved(rt: &(impl Abort + AllocGlobal), game: &Game) -> Settled
+    ensures { result.game ≡ game.now }
+{
+    solve_one(rt.alloc(), game).expect(rt, "memory")
+}
+
+fn is_made_of_even(rt: &(impl Abort + AllocGlobal), game: &Game, wanted: &str) {
+    let settled = solved(rt, game);
+    let even = even_evidence(rt.alloc(), game, &settled).expect(rt, "memory");
+    drop(settled);
+    is_written(rt, &even, wanted);
+    drop(even);
+}
+
+fn is_made_of_odd(rt: &(impl Abort + AllocGlobal), game: &Game, wanted: &str) {
+    holds!(rt; greatest_priority(game) <= 31);
+    let odd = odd_evidence(rt.alloc(), game).expect(rt, "memory");
+    is_written(rt, &odd, wanted);
+    drop(odd);
 }
 
 // What is made of each player is the worked text.
 #[test]
 fn made_evidence_is_written(rt: HostRuntime) {
-    for (formula, even, odd) in &[(OFTEN_A, EVEN, ODD), ("<a>true", EVEN_OF_STEP, ODD_OF_STEP)] {
-        let game = game_of_formula(&rt, formula);
-        assert!(rt; greatest_priority(&game) <= 31);
-        let settled = solve_one(rt.alloc(), &game).expect(&rt, "memory");
-        is_written(
-            &rt,
-            &even_evidence(rt.alloc(), &game, &settled).expect(&rt, "memory"),
-            even,
-        );
-        is_written(
-            &rt,
-            &odd_evidence(rt.alloc(), &game).expect(&rt, "memory"),
-            odd,
-        );
-    }
+    let game = game_of_formula(&rt, OFTEN_A);
+    is_made_of_even(&rt, &game, EVEN);
+    is_made_of_odd(&rt, &game, ODD);
+    drop(game);
+}
+
+#[test]
+fn made_evidence_of_a_step_is_written(rt: HostRuntime) {
+    let game = game_of_formula(&rt, "<a>true");
+    is_made_of_even(&rt, &game, EVEN_OF_STEP);
+    is_made_of_odd(&rt, &game, ODD_OF_STEP);
+    drop(game);
 }
 
 // A byte at a time, less than a line, and as much as a block has. A line that stands whole in the block at hand is read there, any other is kept shortened.
-const STEPS: [usize; 3] = [1, 7, 8192];
+static STEPS: [usize; 3] = [1, 7, 8192];
 
-fn refusal(alloc: Global, game: &Game, text: &str, step: usize) -> Result<String, AllocError> {
-    let reader = Slow {
-        left: text.as_bytes(),
-        step,
-        fails: false,
-    };
-    match read_evidence(alloc, reader, game).err() {
-        None => String::from_str(alloc, "read"),
-        Some(error) => error.to_string(alloc),
+// What was read, as it is told: a refusal, or `read`.
+fn told(alloc: Global, read: &Result<Evidence, EvidenceError>) -> Result<String, AllocError> {
+    match read {
+        Ok(_) => String::from_str(alloc, "read"),
+        Err(error) => error.to_string(alloc),
+    }
+}
+
+fn read_by(
+    rt: &impl AllocGlobal,
+    game: &Game,
+    reader: Slow<'_>,
+) -> Result<Evidence, EvidenceError> {
+    read_evidence(rt.alloc(), reader, game)
+}
+
+fn refusal(rt: &(impl Abort + AllocGlobal), game: &Game, text: &str, step: usize) -> String {
+    let read = read_by(rt, game, slow(text.as_bytes(), step));
+    let told = told(rt.alloc(), &read);
+    drop(read);
+    told.expect(rt, "memory")
+}
+
+fn is_refused(rt: &(impl Abort + AllocGlobal), game: &Game, text: &str, step: usize, wanted: &str) {
+    let told = refusal(rt, game, text, step);
+    same(rt, text, told.as_str(), wanted);
+    drop(told);
+}
+
+fn refuses(rt: &(impl Abort + AllocGlobal), game: &Game, text: &str, wanted: &str) {
+    for step in &STEPS {
+        is_refused(rt, game, text, *step, wanted);
     }
 }
 
@@ -191,15 +272,16 @@ fn faults_of_texts(rt: HostRuntime) {
     for (text, wanted) in &REFUSED {
         refuses(&rt, &game, text, wanted);
     }
-    let other = with_line(rt.alloc(), EVEN, "evidence even", "evidence odd").expect(&rt, "memory");
-    refuses(&rt, &game, other.as_str(), "E2 at line 2");
+    drop(game);
 }
 
-fn refuses(rt: &(impl Abort + AllocGlobal), game: &Game, text: &str, wanted: &str) {
-    for step in STEPS {
-        let told = refusal(rt.alloc(), game, text, step).expect(rt, "memory");
-        same(rt, text, told.as_str(), wanted);
-    }
+#[test]
+fn evidence_of_the_other_player_is_refused(rt: HostRuntime) {
+    let game = game_of_formula(&rt, OFTEN_A);
+    let other = with_line(&rt, EVEN, "evidence even", "evidence odd");
+    refuses(&rt, &game, other.as_str(), "E2 at line 2");
+    drop(game);
+    drop(other);
 }
 
 // Lines that have one part 300 times, and how they are refused. A number of any length is a number.
@@ -216,28 +298,55 @@ static LONG: [(&str, &str, &str, &str); 10] = [
     ("evidence even\n5 13", "-", " (0)\n", "E2 at line 2"),
 ];
 
+fn refuses_long(
+    rt: &(impl Abort + AllocGlobal),
+    game: &Game,
+    front: &str,
+    part: &str,
+    back: &str,
+    wanted: &str,
+) {
+    let text = repeated(rt, front, part, 300, back);
+    refuses(rt, game, text.as_str(), wanted);
+    drop(text);
+}
+
 #[test]
 fn long_lines_are_refused(rt: HostRuntime) {
     let game = game_of_formula(&rt, OFTEN_A);
     for (front, part, back, wanted) in &LONG {
-        let text = repeated_text(rt.alloc(), front, part, 300, back).expect(&rt, "memory");
-        refuses(&rt, &game, text.as_str(), wanted);
+        refuses_long(&rt, &game, front, part, back, wanted);
     }
+    drop(game);
+}
+
+fn is_read_by(rt: &(impl Abort + AllocGlobal), game: &Game, step: usize) {
+    let evidence = read_by(rt, game, slow(EVEN.as_bytes(), step)).expect(rt, "memory");
+    is_written(rt, &evidence, EVEN);
+    drop(evidence);
 }
 
 // The same evidence is read by whatever pieces.
 #[test]
 fn evidence_is_read_by_pieces(rt: HostRuntime) {
     let game = game_of_formula(&rt, OFTEN_A);
-    for step in STEPS {
-        let reader = Slow {
-            left: EVEN.as_bytes(),
-            step,
-            fails: false,
-        };
-        let evidence = read_evidence(rt.alloc(), reader, &game).expect(&rt, "memory");
-        is_written(&rt, &evidence, EVEN);
+    for step in &STEPS {
+        is_read_by(&rt, &game, *step);
     }
+    drop(game);
+}
+
+fn is_failed(read: &Result<Evidence, EvidenceError>) -> bool {
+    match read {
+        Err(EvidenceError::Read) => true,
+        _ => false,
+    }
+}
+
+fn fails(rt: &(impl Abort + AllocGlobal), game: &Game, count: usize) {
+    let read = read_by(rt, game, failing(EVEN.as_bytes(), 7, count));
+    holds!(rt; is_failed(&read));
+    drop(read);
 }
 
 // Each read fails in turn.
@@ -245,14 +354,27 @@ fn evidence_is_read_by_pieces(rt: HostRuntime) {
 fn failed_reads_are_told(rt: HostRuntime) {
     let game = game_of_formula(&rt, OFTEN_A);
     for count in 0..EVEN.len() {
-        let reader = Slow {
-            left: &EVEN.as_bytes()[..count],
-            step: 7,
-            fails: true,
-        };
-        let read = read_evidence(rt.alloc(), reader, &game);
-        assert!(rt; matches!(read, Err(EvidenceError::Read)));
+        fails(&rt, &game, count);
     }
+    drop(game);
+}
+
+// What a checker says of two pieces of evidence.
+fn are_judged(
+    rt: &(impl Abort + AllocGlobal),
+    game: &Game,
+    first: &Evidence,
+    second: &Evidence,
+    wanted: &str,
+)
+    requires first { first.now.game ≡ game.now }
+    requires second { second.now.game ≡ game.now }
+{
+    let mut out = Narrow::new(rt.alloc(), 3, AMPLE);
+    let both = check_both(game, first, second);
+    holds!(rt; write_both(first, second, both, &mut out).is_ok());
+    holds!(rt; has_all(&out, wanted), wanted);
+    drop(out);
 }
 
 // What a checker says of two texts.
@@ -263,12 +385,11 @@ fn says_of_two(
     second: &str,
     wanted: &str,
 ) {
-    let first = read(rt.alloc(), game, first).expect(rt, "memory");
-    let second = read(rt.alloc(), game, second).expect(rt, "memory");
-    let mut out = Narrow::new(rt.alloc(), 3, AMPLE);
-    let both = check_both(game, &first, &second);
-    assert!(rt; write_both(&first, &second, both, &mut out).is_ok());
-    assert!(rt; out.taken.as_slice() == wanted.as_bytes(), "{wanted}");
+    let first = read(rt, game, first);
+    let second = read(rt, game, second);
+    are_judged(rt, game, &first, &second, wanted);
+    drop(second);
+    drop(first);
 }
 
 #[test]
@@ -278,12 +399,32 @@ fn two_texts(rt: HostRuntime) {
     says_of_two(&rt, &game, EVEN, ODD, all);
     says_of_two(&rt, &game, ODD, EVEN, all);
     says_of_two(&rt, &game, EVEN, EVEN, "refused C4\n");
-    let gone = with_line(rt.alloc(), ODD, "1 - (0,0)", "").expect(&rt, "memory");
+    drop(game);
+}
+
+#[test]
+fn two_texts_without_the_first_entry(rt: HostRuntime) {
+    let game = game_of_formula(&rt, OFTEN_A);
+    let gone = with_line(&rt, ODD, "1 - (0,0)", "");
     says_of_two(&rt, &game, EVEN, gone.as_str(), "refused second C2 at 7\n");
     says_of_two(&rt, &game, gone.as_str(), EVEN, "refused first C2 at 7\n");
-    let left = with_line(rt.alloc(), ODD, "7 - (0,1)", "").expect(&rt, "memory");
+    drop(game);
+    drop(gone);
+}
+
+#[test]
+fn two_texts_without_another_entry(rt: HostRuntime) {
+    let game = game_of_formula(&rt, OFTEN_A);
+    let left = with_line(&rt, ODD, "7 - (0,1)", "");
     says_of_two(&rt, &game, EVEN, left.as_str(), "refused C5 at 7\n");
-    let step = game_of_formula(&rt, "<a>true");
+    drop(game);
+    drop(left);
+}
+
+#[test]
+fn two_texts_of_a_step(rt: HostRuntime) {
+    let game = game_of_formula(&rt, "<a>true");
     let six = "verified both even 4 odd 2 of 6\n";
-    says_of_two(&rt, &step, EVEN_OF_STEP, ODD_OF_STEP, six)
+    says_of_two(&rt, &game, EVEN_OF_STEP, ODD_OF_STEP, six);
+    drop(game);
 }

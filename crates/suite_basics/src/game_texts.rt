@@ -1,14 +1,14 @@
 // Texts of games in the format of PGSolver and what is wrong with them, with the codes of docs/FORMATS.md. Games, texts and
 // lines of faults are worked examples of that format, written by hand.
 
-use crate::common::same;
-use game::build::build;
+use crate::common::{
+    failing, game_by_hand, game_of, has_taken, holds_for, is_either, narrow, repeated, same, slow,
+};
 use game::graph::Game;
 use game::player::Player;
 use pgsolver::{read_game, write_game};
-use samples::games::{Row, game_of_rows};
-use samples::readers::{Halting, Slow};
-use samples::texts::{form_of, repeated_text, system_read};
+use samples::games::Row;
+use samples::readers::Halting;
 use samples::writers::{AtEnd, Narrow};
 use std::alloc::{AllocError, Global};
 use std::io::Read;
@@ -17,7 +17,11 @@ use std::process::Abort;
 // The canonical text of what was read, or the refusal.
 fn shown<R: Read + Drop>(alloc: Global, reader: R) -> Result<String, AllocError> {
     match read_game(alloc, reader) {
-        Ok(game) => text_of(alloc, &game),
+        Ok(game) => {
+            let text = text_of(alloc, &game);
+            drop(game);
+            text
+        }
         Err(error) => error.to_string(alloc),
     }
 }
@@ -72,20 +76,19 @@ static TEXTS: [(&str, &str); 31] = [
     ("parity 0;\n0 4294967296 0 0;", "G5 at line 2"),
 ];
 
+// What is shown of what a reader gives is this.
+fn is_shown<R: Read + Drop>(rt: &(impl Abort + AllocGlobal), what: &str, reader: R, wanted: &str) {
+    let told = shown(rt.alloc(), reader).expect(rt, "memory");
+    same(rt, what, told.as_str(), wanted);
+    drop(told);
+}
+
 // A byte at a time, less than a line, and as much as a block has. A line that stands whole in the block at hand is read at once, any other token by
 // token.
-const STEPS: [usize; 3] = [1, 7, 8192];
-
 fn tells(rt: &(impl Abort + AllocGlobal), what: &str, text: &[u8], wanted: &str) {
-    for step in STEPS {
-        let reader = Slow {
-            left: text,
-            step,
-            fails: false,
-        };
-        let told = shown(rt.alloc(), reader).expect(rt, "memory");
-        same(rt, what, told.as_str(), wanted);
-    }
+    is_shown(rt, what, slow(text, 1), wanted);
+    is_shown(rt, what, slow(text, 7), wanted);
+    is_shown(rt, what, slow(text, 8192), wanted);
 }
 
 #[test]
@@ -109,9 +112,7 @@ static NAMES: [(usize, &str, &str); 7] = [
 #[test]
 fn a_name_has_a_limit(rt: HostRuntime) {
     for (count, end, wanted) in &NAMES {
-        let text = repeated_text(rt.alloc(), "parity 0;\n0 0 0 0\"", "x", *count, end).expect(
-            &rt, "memory",
-        );
+        let text = repeated(&rt, "parity 0;\n0 0 0 0\"", "x", *count, end);
         tells(&rt, "a name", text.as_bytes(), wanted);
     }
 }
@@ -133,7 +134,7 @@ static ENDS: [(&str, &str); 6] = [
 fn successors_stand_again_and_again(rt: HostRuntime) {
     let lines = "parity 3;\n3 0 0 3;\n2 0 0 2;\n1 0 0 1;\n0 0 0 3";
     for (end, wanted) in &ENDS {
-        let text = repeated_text(rt.alloc(), lines, ", 1 ,3", 2_500, end).expect(&rt, "memory");
+        let text = repeated(&rt, lines, ", 1 ,3", 2_500, end);
         tells(&rt, "successors", text.as_bytes(), wanted);
     }
 }
@@ -142,17 +143,7 @@ fn successors_stand_again_and_again(rt: HostRuntime) {
 #[test]
 fn a_failed_read_is_told_wherever_it_comes(rt: HostRuntime) {
     for given in 0..=TWO.len() {
-        let reader = Slow {
-            left: &TWO.as_bytes()[..given],
-            step: 5,
-            fails: true,
-        };
-        same(
-            &rt,
-            "a beginning",
-            shown(rt.alloc(), reader).expect(&rt, "memory").as_str(),
-            "G7",
-        );
+        is_shown(&rt, "a beginning", failing(TWO.as_bytes(), 5, given), "G7");
     }
 }
 
@@ -162,12 +153,7 @@ fn an_interrupted_read_is_tried_again(rt: HostRuntime) {
         left: TWO.as_bytes(),
         is_interrupted: false,
     };
-    same(
-        &rt,
-        TWO,
-        shown(rt.alloc(), reader).expect(&rt, "memory").as_str(),
-        TWO,
-    );
+    is_shown(&rt, TWO, reader, TWO);
 }
 
 // Each growth may be refused: then nothing but that is told. tests/refusals refuses each in turn.
@@ -175,49 +161,51 @@ fn an_interrupted_read_is_tried_again(rt: HostRuntime) {
 fn want_of_memory_is_told_as_such(rt: HostRuntime) {
     let text = "parity 2;\n2 0 0 0,1;\n0 1 1 2;\n1 2 0 1 \"x\";\n";
     if let Ok(told) = shown(rt.alloc(), text.as_bytes()) {
-        assert!(rt;
-            told.as_str() == "parity 2;\n0 1 1 2;\n1 2 0 1;\n2 0 0 0,1;\n" || told.as_str() == "G8",
-            "{told}"
+        is_either(
+            &rt,
+            told.as_str(),
+            "parity 2;\n0 1 1 2;\n1 2 0 1;\n2 0 0 0,1;\n",
+            "G8",
         );
+        drop(told);
     }
 }
+
+fn is_written(rt: &(impl Abort + AllocGlobal), game: &Game, wanted: &str) {
+    let text = text_of(rt.alloc(), game).expect(rt, "memory");
+    same(rt, "names", text.as_str(), wanted);
+    drop(text);
+}
+
+const NAMED: &str =
+    "parity 3;\n0 0 0 0 \"true\";\n1 1 0 1 \"false\";\n2 0 1 0 \"0,0\";\n3 0 0 1 \"0,1\";\n";
 
 // A game that `build` made is written with its names, and read again without them.
 #[test]
 fn names_are_written_and_not_read(rt: HostRuntime) {
-    let lts = system_read(rt.alloc(), "des (0,0,1)").expect(&rt, "a system");
-    let form = form_of(rt.alloc(), "[true]false").expect(&rt, "a formula");
-    let game = build(&rt, rt.alloc(), &lts, &form).expect(&rt, "memory");
-    let text = text_of(rt.alloc(), &game).expect(&rt, "memory");
-    same(
-        &rt,
-        "names",
-        text.as_str(),
-        "parity 3;\n0 0 0 0 \"true\";\n1 1 0 1 \"false\";\n2 0 1 0 \"0,0\";\n3 0 0 1 \"0,1\";\n",
-    );
-    same(
-        &rt,
-        "no names",
-        shown(rt.alloc(), text.as_bytes())
-            .expect(&rt, "memory")
-            .as_str(),
-        "parity 3;\n0 0 0 0;\n1 1 0 1;\n2 0 1 0;\n3 0 0 1;\n",
-    );
+    let game = game_of(&rt, "des (0,0,1)", "[true]false");
+    is_written(&rt, &game, NAMED);
+    drop(game);
+    let nameless = "parity 3;\n0 0 0 0;\n1 1 0 1;\n2 0 1 0;\n3 0 0 1;\n";
+    is_shown(&rt, "no names", NAMED.as_bytes(), nameless);
 }
 
 static ROWS: [Row; 2] = [(Player::Even, 0, &[1]), (Player::Odd, 1, &[0])];
 
 // A writer without room for the whole text is given a beginning, and a fault is told.
+fn is_cut(rt: &(impl Abort + AllocGlobal), game: &Game, room: usize, at_end: AtEnd) {
+    let mut out = narrow(rt, 4, room, at_end);
+    let is_told = write_game(game, &mut out).is_err();
+    holds_for(rt, is_told && has_taken(&out, room, TWO), room);
+    drop(out);
+}
+
 #[test]
 fn a_failed_write_leaves_a_beginning(rt: HostRuntime) {
-    let game = game_of_rows(&rt, &ROWS).expect(&rt, "a game");
+    let game = game_by_hand(&rt, &ROWS);
     for room in 0..TWO.len() {
-        for at_end in [AtEnd::Fails, AtEnd::TakesNothing] {
-            let mut out = Narrow::new(rt.alloc(), 4, room);
-            out.at_end = at_end;
-            assert!(rt; write_game(&game, &mut out).is_err());
-            assert!(rt; out.taken.len() == room);
-            assert!(rt; TWO.as_bytes().starts_with(out.taken.as_slice()));
-        }
+        is_cut(&rt, &game, room, AtEnd::Fails);
+        is_cut(&rt, &game, room, AtEnd::TakesNothing);
     }
+    drop(game);
 }

@@ -1,27 +1,36 @@
 // What a gauge shows, and that of a game that is built: two states with two nodes are four vertices.
 
+use crate::common::{form, holds, system};
 use game::build::build_seen;
+use game::graph::Game;
 use gauge::{Gauge, Reading};
-use samples::texts::{RING, form_of, system_read};
+use samples::texts::RING;
+use std::process::Abort;
+use std::thread::Threads;
+
+// A gauge shows that so much of so much is done.
+fn reads(rt: &impl Abort, gauge: &Gauge, done: u64, whole: u64) {
+    holds!(rt; gauge.reading() == Some(Reading { done, whole }));
+}
 
 #[test]
 fn a_gauge_shows_nothing_before_a_part_begins(rt: HostRuntime) {
     let gauge = Gauge::new();
-    assert!(rt; gauge.reading().is_none());
+    holds!(&rt; gauge.reading().is_none());
     gauge.put(3);
-    assert!(rt; gauge.reading().is_none());
+    holds!(&rt; gauge.reading().is_none());
 }
 
 #[test]
 fn a_gauge_shows_how_far_a_part_has_come(rt: HostRuntime) {
     let gauge = Gauge::new();
     gauge.begin(7);
-    assert!(rt; gauge.reading() == Some(Reading { done: 0, whole: 7 }));
+    reads(&rt, &gauge, 0, 7);
     gauge.put(2);
     gauge.add(3);
-    assert!(rt; gauge.reading() == Some(Reading { done: 5, whole: 7 }));
+    reads(&rt, &gauge, 5, 7);
     gauge.show(1, 9);
-    assert!(rt; gauge.reading() == Some(Reading { done: 1, whole: 9 }));
+    reads(&rt, &gauge, 1, 9);
 }
 
 #[test]
@@ -29,7 +38,7 @@ fn a_gauge_shows_no_more_than_all(rt: HostRuntime) {
     let gauge = Gauge::new();
     gauge.begin(7);
     gauge.add(u64::MAX);
-    assert!(rt; gauge.reading() == Some(Reading { done: 7, whole: 7 }));
+    reads(&rt, &gauge, 7, 7);
 }
 
 #[test]
@@ -37,15 +46,24 @@ fn a_gauge_that_is_cleared_shows_nothing(rt: HostRuntime) {
     let gauge = Gauge::new();
     gauge.begin(7);
     gauge.clear();
-    assert!(rt; gauge.reading().is_none());
+    holds!(&rt; gauge.reading().is_none());
+}
+
+// The game, of which a gauge shows how it is made.
+fn game_seen(rt: &(impl Abort + AllocGlobal + Threads + Sync), gauge: &Gauge) -> Game {
+    let lts = system(rt, RING);
+    let form = form(rt, "<a>true");
+    let game = build_seen(rt, rt.alloc(), &lts, &form, Some(gauge)).expect(rt, "memory");
+    drop(form);
+    drop(lts);
+    game
 }
 
 #[test]
 fn a_game_shows_how_many_of_its_vertices_are_made(rt: HostRuntime) {
-    let lts = system_read(rt.alloc(), RING).expect(&rt, "a system");
-    let form = form_of(rt.alloc(), "<a>true").expect(&rt, "a normal form");
     let gauge = Gauge::new();
-    let game = build_seen(&rt, rt.alloc(), &lts, &form, Some(&gauge)).expect(&rt, "memory");
-    assert!(rt; game.vertices() == 6);
-    assert!(rt; gauge.reading() == Some(Reading { done: 4, whole: 4 }));
+    let game = game_seen(&rt, &gauge);
+    holds!(&rt; game.vertices() == 6);
+    drop(game);
+    reads(&rt, &gauge, 4, 4);
 }

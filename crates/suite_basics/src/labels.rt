@@ -1,31 +1,52 @@
 // Labels, and which of them an action formula holds of: by the mCRL2 manual (multi-actions), worked out by hand.
 
+use crate::common;
 use calculus::closed::Closed;
 use calculus::holds;
 use calculus::tree::{Reg, State};
 use lts::Label;
-use samples::texts::parsed_formula;
-use std::alloc::{AllocError, Global};
 use std::process::Abort;
 
-// The names that a label is read as, each before a stop, or a dash.
-fn names(alloc: Global, label: &Label) -> Result<Vec<u8>, AllocError> {
-    let mut text = Vec::new(alloc);
-    match label.view().names {
-        None => text.push(b'-')?,
-        Some(names) => {
-            for name in names {
-                text.extend_from_slice(name)?;
-                text.push(b'.')?;
-            }
-        }
-    }
-    Ok(text)
+fn push(rt: &impl Abort, text: &mut Vec<u8>, bytes: &[u8]) {
+    text.extend_from_slice(bytes).expect(rt, "memory");
 }
 
-fn is_read_as(alloc: Global, text: &str, wanted: &str) -> Result<bool, AllocError> {
-    let label = Label::new(alloc, text.as_bytes())?;
-    Ok(names(alloc, &label)?.as_slice() == wanted.as_bytes())
+// Names, each before a stop.
+fn push_names(rt: &impl Abort, text: &mut Vec<u8>, label: &Label) -> bool {
+    match label.view().names {
+        None => false,
+        Some(names) => {
+            for name in names {
+                push(rt, text, name);
+                push(rt, text, b".");
+            }
+            true
+        }
+    }
+}
+
+// The names that a label is read as, each before a stop, or a dash.
+fn names(rt: &(impl Abort + AllocGlobal), label: &Label) -> Vec<u8> {
+    let mut text = Vec::new(rt.alloc());
+    if !push_names(rt, &mut text, label) {
+        push(rt, &mut text, b"-");
+    }
+    text
+}
+
+fn label_of(rt: &(impl Abort + AllocGlobal), text: &str) -> Label {
+    Label::new(rt.alloc(), text.as_bytes()).expect(rt, "memory")
+}
+
+fn has_names(rt: &(impl Abort + AllocGlobal), label: &Label, wanted: &str) -> bool {
+    let names = names(rt, label);
+    names.as_slice() == wanted.as_bytes()
+}
+
+fn is_read_as(rt: &(impl Abort + AllocGlobal), text: &str, wanted: &str) {
+    let label = label_of(rt, text);
+    common::holds!(rt; has_names(rt, &label, wanted), text);
+    drop(label);
 }
 
 // Labels, and the names that they are read as.
@@ -41,10 +62,7 @@ static READINGS: [(&str, &str); 6] = [
 #[test]
 fn labels_are_read_as_names(rt: HostRuntime) {
     for (text, wanted) in &READINGS {
-        assert!(rt;
-            is_read_as(rt.alloc(), text, wanted).expect(&rt, "memory"),
-            "{text}"
-        );
+        is_read_as(&rt, text, wanted);
     }
 }
 
@@ -68,18 +86,22 @@ fn says_of(formula: &Closed, label: &Label, says: bool) -> bool {
     }
 }
 
-fn is_as_wanted(rt: &(impl Abort + AllocGlobal), label: &str, formula: &str, says: bool) -> bool {
-    let label = Label::new(rt.alloc(), label.as_bytes()).expect(rt, "memory");
-    let formula = parsed_formula(rt.alloc(), formula).expect(rt, "a formula");
-    says_of(&formula, &label, says)
+// Two texts are to be told where a claim of both fails.
+fn require_of(rt: &impl Abort, is_so: bool, label: &str, formula: &str) {
+    assert!(rt; is_so, "{label} {formula}");
+}
+
+fn is_as_wanted(rt: &(impl Abort + AllocGlobal), label: &str, formula: &str, says: bool) {
+    let read = label_of(rt, label);
+    let parsed = common::formula(rt, formula);
+    require_of(rt, says_of(&parsed, &read, says), label, formula);
+    drop(parsed);
+    drop(read);
 }
 
 #[test]
 fn action_formulas_hold_of_labels(rt: HostRuntime) {
     for (label, formula, says) in &ROWS {
-        assert!(rt;
-            is_as_wanted(&rt, label, formula, *says),
-            "{label} {formula}"
-        );
+        is_as_wanted(&rt, label, formula, *says);
     }
 }

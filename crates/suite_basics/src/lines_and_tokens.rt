@@ -1,10 +1,11 @@
 // Lines, tokens and pieces of texts, as docs/FORMATS.md has them of all texts and of systems: worked out by hand.
 
-use samples::readers::Slow;
+use crate::common::{failing, holds, holds_for};
 use samples::writers::{AMPLE, Narrow};
-use std::alloc::{AllocError, Global};
+use std::io::BufReader;
+use std::process::Abort;
 use text::scan::{is_end, number, number_before, quoted, sign};
-use text::source::{Blocks, blocks_of};
+use text::source::{Blocks, Noted, blocks_of};
 use text::{Piece, ReadFault, next_line, put_pieces, stream};
 
 // Texts, and their lines with a bar after each.
@@ -21,57 +22,72 @@ static LINES: [(&str, &str); 10] = [
     ("a\r\r\n", "a\r|"),
 ];
 
+// A reader of a text.
+fn reader<'t>(rt: &(impl Abort + AllocGlobal), text: &'t [u8]) -> BufReader<Noted<&'t [u8]>> {
+    blocks_of(rt.alloc(), text).expect(rt, "memory")
+}
+
+fn push(rt: &impl Abort, shown: &mut Vec<u8>, bytes: &[u8]) {
+    shown.extend_from_slice(bytes).expect(rt, "memory");
+}
+
 // The next line with a bar, if there is one.
 fn take_line<B: Blocks>(
+    rt: &impl Abort,
     reader: &mut B,
     line: &mut Vec<u8>,
     shown: &mut Vec<u8>,
-) -> Result<bool, AllocError> {
+) -> bool {
     match next_line(reader, line) {
         Ok(true) => {
-            shown.extend_from_slice(line.as_slice())?;
-            shown.push(b'|')?;
-            Ok(true)
+            push(rt, shown, line.as_slice());
+            push(rt, shown, b"|");
+            true
         }
-        _ => Ok(false),
+        _ => false,
     }
 }
 
-fn lines_of(alloc: Global, text: &str) -> Result<Vec<u8>, AllocError> {
-    let mut reader = blocks_of(alloc, text.as_bytes()).map_err(|_| AllocError)?;
-    let mut line = Vec::new(alloc);
-    let mut shown = Vec::new(alloc);
+fn take_lines<B: Blocks>(rt: &impl Abort, reader: &mut B, line: &mut Vec<u8>, shown: &mut Vec<u8>) {
     for _ in 0..9 {
-        if !take_line(&mut reader, &mut line, &mut shown)? {
+        if !take_line(rt, reader, line, shown) {
             break;
         }
     }
-    Ok(shown)
+}
+
+fn has_lines(rt: &(impl Abort + AllocGlobal), text: &str, wanted: &str) {
+    let mut reader = reader(rt, text.as_bytes());
+    let mut line = Vec::new(rt.alloc());
+    let mut shown = Vec::new(rt.alloc());
+    take_lines(rt, &mut reader, &mut line, &mut shown);
+    holds!(rt; shown.as_slice() == wanted.as_bytes(), wanted);
+    drop(shown);
+    drop(line);
+    drop(reader);
 }
 
 #[test]
 fn texts_have_lines(rt: HostRuntime) {
     for (text, wanted) in &LINES {
-        assert!(rt;
-            lines_of(rt.alloc(), text).expect(&rt, "memory").as_slice() == wanted.as_bytes(),
-            "{wanted}"
-        );
+        has_lines(&rt, text, wanted);
     }
 }
 
 // The first line is read, and the second one's end fails.
+fn fails_after_a_line<B: Blocks>(rt: &impl Abort, reader: &mut B, line: &mut Vec<u8>) {
+    holds!(rt; next_line(reader, line) == Ok(true));
+    holds!(rt; line.as_slice() == b"a".as_slice());
+    holds!(rt; next_line(reader, line) == Err(ReadFault::Read));
+}
+
 #[test]
 fn a_failed_read_is_no_line(rt: HostRuntime) {
-    let slow = Slow {
-        left: b"a\nb",
-        step: 1,
-        fails: true,
-    };
-    let mut reader = blocks_of(rt.alloc(), slow).expect(&rt, "memory");
+    let mut reader = blocks_of(rt.alloc(), failing(b"a\nb", 1, 3)).expect(&rt, "memory");
     let mut line = Vec::new(rt.alloc());
-    assert!(rt; next_line(&mut reader, &mut line) == Ok(true));
-    assert!(rt; line.as_slice() == b"a".as_slice());
-    assert!(rt; next_line(&mut reader, &mut line) == Err(ReadFault::Read));
+    fails_after_a_line(&rt, &mut reader, &mut line);
+    drop(line);
+    drop(reader);
 }
 
 // Lines, signs, and what follows.
@@ -158,35 +174,37 @@ fn is_quote(found: Option<(&[u8], &[u8])>, wanted: &Option<(&str, &str)>) -> boo
 }
 
 #[test]
-fn signs_and_ends_are_found(rt: HostRuntime) {
+fn signs_are_found(rt: HostRuntime) {
     for (line, token, wanted) in &SIGNS {
-        assert!(rt;
-            is_rest(sign(line.as_bytes(), token.as_bytes()), wanted),
-            "{line}"
-        );
+        holds!(&rt; is_rest(sign(line.as_bytes(), token.as_bytes()), wanted), line);
     }
+}
+
+#[test]
+fn ends_are_found(rt: HostRuntime) {
     for (line, wanted) in &ENDS {
-        assert!(rt; is_end(line.as_bytes()) == *wanted, "{line}");
+        holds!(&rt; is_end(line.as_bytes()) == *wanted, line);
     }
 }
 
 #[test]
 fn numbers_are_found(rt: HostRuntime) {
     for (line, wanted) in &NUMBERS {
-        assert!(rt; is_number(number(line.as_bytes()), wanted), "{line}");
+        holds!(&rt; is_number(number(line.as_bytes()), wanted), line);
     }
+}
+
+#[test]
+fn numbers_before_a_comma_are_found(rt: HostRuntime) {
     for (line, wanted) in &BEFORE {
-        assert!(rt;
-            is_number(number_before(line.as_bytes(), b","), wanted),
-            "{line}"
-        );
+        holds!(&rt; is_number(number_before(line.as_bytes(), b","), wanted), line);
     }
 }
 
 #[test]
 fn quotes_are_found(rt: HostRuntime) {
     for (line, wanted) in &QUOTES {
-        assert!(rt; is_quote(quoted(line.as_bytes()), wanted), "{line}");
+        holds!(&rt; is_quote(quoted(line.as_bytes()), wanted), line);
     }
 }
 
@@ -198,67 +216,148 @@ fn left_by<'a>(found: Result<bool, ReadFault>, left: &'a [u8]) -> Option<&'a [u8
     }
 }
 
+fn has_sign(rt: &(impl Abort + AllocGlobal), text: &str, token: &str, wanted: &Option<&str>) {
+    let mut reader = reader(rt, text.as_bytes());
+    let found = match token {
+        "des" => stream::word(&mut reader, b"des"),
+        _ => stream::sign(&mut reader, b'('),
+    };
+    holds!(rt; is_rest(left_by(found, reader.buffer()), wanted), text);
+    drop(reader);
+}
+
 #[test]
-fn signs_and_ends_are_read(rt: HostRuntime) {
+fn signs_are_read(rt: HostRuntime) {
     for (text, token, wanted) in &SIGNS {
-        let mut reader = blocks_of(rt.alloc(), text.as_bytes()).expect(&rt, "memory");
-        let found = match *token {
-            "des" => stream::word(&mut reader, b"des"),
-            _ => stream::sign(&mut reader, b'('),
-        };
-        assert!(rt; is_rest(left_by(found, reader.buffer()), wanted), "{text}");
+        has_sign(&rt, text, token, wanted);
     }
+}
+
+fn has_end(rt: &(impl Abort + AllocGlobal), text: &str, wanted: &Option<&str>) {
+    let mut reader = reader(rt, text.as_bytes());
+    let found = stream::has_ended(&mut reader);
+    holds!(rt; is_rest(left_by(found, reader.buffer()), wanted), text);
+    drop(reader);
+}
+
+#[test]
+fn ends_are_read(rt: HostRuntime) {
     for (text, wanted) in &TEXT_ENDS {
-        let mut reader = blocks_of(rt.alloc(), text.as_bytes()).expect(&rt, "memory");
-        let found = stream::has_ended(&mut reader);
-        assert!(rt; is_rest(left_by(found, reader.buffer()), wanted), "{text}");
+        has_end(&rt, text, wanted);
     }
-    let mut none = blocks_of(rt.alloc(), b"".as_slice()).expect(&rt, "memory");
-    assert!(rt; stream::has_line(&mut none) == Ok(false));
-    let mut one = blocks_of(rt.alloc(), b"\n".as_slice()).expect(&rt, "memory");
-    assert!(rt; stream::has_line(&mut one) == Ok(true));
+}
+
+fn has_line(rt: &(impl Abort + AllocGlobal), text: &[u8], is_so: bool) {
+    let mut reader = reader(rt, text);
+    holds!(rt; stream::has_line(&mut reader) == Ok(is_so));
+    drop(reader);
+}
+
+#[test]
+fn a_text_has_a_line_where_a_byte_is_left(rt: HostRuntime) {
+    has_line(&rt, b"", false);
+    has_line(&rt, b"\n", true);
+}
+
+// A number that was read, with what is left.
+fn number_by<'a>(
+    rt: &impl Abort,
+    found: Result<Option<u32>, ReadFault>,
+    left: &'a [u8],
+) -> Option<(u32, &'a [u8])> {
+    match found.expect(rt, "memory") {
+        Some(value) => Some((value, left)),
+        None => None,
+    }
+}
+
+fn has_number(
+    rt: &(impl Abort + AllocGlobal),
+    digits: &mut Vec<u8>,
+    text: &str,
+    wanted: &Option<(u32, &str)>,
+) {
+    let mut reader = reader(rt, text.as_bytes());
+    let found = stream::number(&mut reader, digits);
+    holds!(rt; is_number(number_by(rt, found, reader.buffer()), wanted), text);
+    drop(reader);
 }
 
 #[test]
 fn numbers_are_read(rt: HostRuntime) {
     let mut digits = Vec::new(rt.alloc());
     for (text, wanted) in &NUMBERS {
-        let mut reader = blocks_of(rt.alloc(), text.as_bytes()).expect(&rt, "memory");
-        let found = stream::number(&mut reader, &mut digits).expect(&rt, "memory");
-        assert!(rt;
-            is_number(found.map(|value| (value, reader.buffer())), wanted),
-            "{text}"
-        );
+        has_number(&rt, &mut digits, text, wanted);
     }
-    for (text, wanted) in &BEFORE {
-        let mut reader = blocks_of(rt.alloc(), text.as_bytes()).expect(&rt, "memory");
-        let found = stream::number_before(&mut reader, b',', &mut digits).expect(&rt, "memory");
-        assert!(rt;
-            is_number(found.map(|value| (value, reader.buffer())), wanted),
-            "{text}"
-        );
-    }
+    drop(digits);
+}
+
+fn has_number_before(
+    rt: &(impl Abort + AllocGlobal),
+    digits: &mut Vec<u8>,
+    text: &str,
+    wanted: &Option<(u32, &str)>,
+) {
+    let mut reader = reader(rt, text.as_bytes());
+    let found = stream::number_before(&mut reader, b',', digits);
+    holds!(rt; is_number(number_by(rt, found, reader.buffer()), wanted), text);
+    drop(reader);
 }
 
 #[test]
-fn quotes_are_read_and_their_first_bytes_kept(rt: HostRuntime) {
-    let mut kept = Vec::new(rt.alloc());
-    for (text, wanted) in &QUOTES {
-        let mut reader = blocks_of(rt.alloc(), text.as_bytes()).expect(&rt, "memory");
-        let found = stream::quoted(&mut reader, 9, &mut kept);
-        let rest = left_by(found, reader.buffer());
-        assert!(rt;
-            is_quote(rest.map(|rest| (kept.as_slice(), rest)), wanted),
-            "{text}"
-        );
+fn numbers_before_a_comma_are_read(rt: HostRuntime) {
+    let mut digits = Vec::new(rt.alloc());
+    for (text, wanted) in &BEFORE {
+        has_number_before(&rt, &mut digits, text, wanted);
     }
-    let mut long = blocks_of(rt.alloc(), b"\"abcdef\",".as_slice()).expect(&rt, "memory");
-    assert!(rt; stream::quoted(&mut long, 4, &mut kept) == Ok(true));
-    assert!(rt; kept.as_slice() == b"abcd".as_slice());
-    assert!(rt; long.buffer() == b",".as_slice());
+    drop(digits);
 }
 
-const PIECES: [Piece<'static>; 5] = [
+// A quote that was read, with what is left.
+fn quote_by<'a>(
+    found: Result<bool, ReadFault>,
+    kept: &'a [u8],
+    left: &'a [u8],
+) -> Option<(&'a [u8], &'a [u8])> {
+    match found {
+        Ok(true) => Some((kept, left)),
+        _ => None,
+    }
+}
+
+fn has_quote(
+    rt: &(impl Abort + AllocGlobal),
+    kept: &mut Vec<u8>,
+    text: &str,
+    wanted: &Option<(&str, &str)>,
+) {
+    let mut reader = reader(rt, text.as_bytes());
+    let found = stream::quoted(&mut reader, 9, kept);
+    holds!(rt; is_quote(quote_by(found, kept.as_slice(), reader.buffer()), wanted), text);
+    drop(reader);
+}
+
+#[test]
+fn quotes_are_read(rt: HostRuntime) {
+    let mut kept = Vec::new(rt.alloc());
+    for (text, wanted) in &QUOTES {
+        has_quote(&rt, &mut kept, text, wanted);
+    }
+    drop(kept);
+}
+
+#[test]
+fn the_first_bytes_of_quotes_are_kept(rt: HostRuntime) {
+    let mut kept = Vec::new(rt.alloc());
+    let mut long = reader(&rt, b"\"abcdef\",");
+    holds!(&rt; stream::quoted(&mut long, 4, &mut kept) == Ok(true));
+    holds!(&rt; kept.as_slice() == b"abcd".as_slice());
+    holds!(&rt; long.buffer() == b",".as_slice());
+    drop(long);
+    drop(kept);
+}
+
+static PIECES: [Piece<'static>; 5] = [
     Piece::Bytes(b"system "),
     Piece::Number(1_000_000),
     Piece::Bytes(b""),
@@ -268,20 +367,27 @@ const PIECES: [Piece<'static>; 5] = [
 
 const JOINED: &[u8] = b"system 1000000 states 18446744073709551615";
 
-// Whether a writer with so much room is given a beginning, and a fault is told unless it is all.
-fn is_put(alloc: Global, step: usize, room: usize) -> bool {
-    let mut out = Narrow::new(alloc, step, room);
-    let answer = put_pieces(&mut out, &PIECES);
-    answer.is_ok() == (room >= JOINED.len())
-        && out.taken.as_slice() == &JOINED[..room.min(JOINED.len())]
+// A writer with so much room is given a beginning, and a fault is told unless it is all.
+fn is_put(rt: &(impl Abort + AllocGlobal), step: usize, room: usize) {
+    let mut out = Narrow::new(rt.alloc(), step, room);
+    let is_whole = put_pieces(&mut out, &PIECES).is_ok();
+    let front = room.min(JOINED.len());
+    holds_for(rt, is_whole == (room >= JOINED.len()), room);
+    holds_for(rt, out.taken.as_slice() == &JOINED[..front], room);
+    drop(out);
+}
+
+// The same for each room that is too little.
+fn is_put_anywhere(rt: &(impl Abort + AllocGlobal), step: usize) {
+    is_put(rt, step, AMPLE);
+    for room in 0..JOINED.len() {
+        is_put(rt, step, room);
+    }
 }
 
 #[test]
 fn pieces_are_put_one_after_another(rt: HostRuntime) {
-    for step in [1, 7, 8192] {
-        assert!(rt; is_put(rt.alloc(), step, AMPLE));
-        for room in 0..JOINED.len() {
-            assert!(rt; is_put(rt.alloc(), step, room), "{room}");
-        }
-    }
+    is_put_anywhere(&rt, 1);
+    is_put_anywhere(&rt, 7);
+    is_put_anywhere(&rt, 8192);
 }

@@ -1,11 +1,12 @@
 // The states at which formulas hold, by sets of states: what each means by Kozen 1983 and, for regular formulas, by the
 // mCRL2 manual, worked out by hand.
 
-use crate::common::same;
+use crate::common;
+use crate::common::{holds, push_text, repeated, same};
 use calculus::closed::Closed;
 use lts::Lts;
 use meaning::plain::plain_states;
-use samples::texts::{RING, parsed_formula, repeated_text, ring, system_read};
+use samples::texts::{RING, ring};
 use std::process::Abort;
 
 // To its second state by `a`, and there round by `b`.
@@ -51,33 +52,50 @@ static ROWS: [(&str, &str, &str); 28] = [
     (RING, "mu X. <a>X", "nn"),
 ];
 
+fn meant(rt: &(impl Abort + AllocGlobal), lts: &Lts, formula: &Closed) -> Vec<bool> {
+    plain_states(rt.alloc(), lts, formula).expect(rt, "memory")
+}
+
 // A mark for each state, `y` or `n`.
-fn shown(rt: &(impl Abort + AllocGlobal), lts: &Lts, formula: &Closed) -> String {
+fn shown(rt: &(impl Abort + AllocGlobal), marks: &[bool]) -> String {
     let mut text = String::new(rt.alloc());
-    for mark in &plain_states(rt.alloc(), lts, formula).expect(rt, "memory") {
-        text.push(if *mark { 'y' } else { 'n' })
-            .expect(rt, "memory");
+    for mark in marks {
+        push_text(rt, &mut text, if *mark { "y" } else { "n" });
     }
     text
 }
 
+fn marks_of(rt: &(impl Abort + AllocGlobal), lts: &Lts, formula: &Closed) -> String {
+    let marks = meant(rt, lts, formula);
+    shown(rt, marks.as_slice())
+}
+
 fn marks(rt: &(impl Abort + AllocGlobal), system: &str, formula: &str) -> String {
-    let lts = system_read(rt.alloc(), system).expect(rt, "a system");
-    let formula = parsed_formula(rt.alloc(), formula).expect(rt, "a formula");
-    shown(rt, &lts, &formula)
+    let lts = common::system(rt, system);
+    let formula = common::formula(rt, formula);
+    let marks = marks_of(rt, &lts, &formula);
+    drop(formula);
+    drop(lts);
+    marks
+}
+
+fn is_marked(rt: &(impl Abort + AllocGlobal), system: &str, formula: &str, wanted: &str) {
+    let marks = marks(rt, system, formula);
+    same(rt, formula, marks.as_str(), wanted);
+    drop(marks);
 }
 
 #[test]
 fn formulas_hold_where_they_are_to(rt: HostRuntime) {
     for (system, formula, wanted) in &ROWS {
-        same(&rt, formula, marks(&rt, system, formula).as_str(), wanted);
+        is_marked(&rt, system, formula, wanted);
     }
 }
 
 // A beginning, a piece and how often it stands, and an end; and a mark for each state of the ring. The second has 31
 // binders, of which the innermost is `mu`; the fourth 120, none of whose variables stands in its formula; the last one 60,
 // each of which says that a `b` can be reached, or that what stands inside holds, which is closed.
-const LARGE: [(&str, &str, usize, &str, &str); 5] = [
+static LARGE: [(&str, &str, usize, &str, &str); 5] = [
     ("", "!", 256, "true", "yy"),
     ("mu X. ", "nu X. mu X. ", 15, "true", "yy"),
     ("<a", " +", 40, ">true", "yn"),
@@ -88,20 +106,27 @@ const LARGE: [(&str, &str, usize, &str, &str); 5] = [
 #[test]
 fn large_formulas_hold_too(rt: HostRuntime) {
     for (head, part, times, tail, wanted) in &LARGE {
-        let formula = repeated_text(rt.alloc(), head, part, *times, tail).expect(&rt, "memory");
-        same(
-            &rt,
-            head,
-            marks(&rt, RING, formula.as_str()).as_str(),
-            wanted,
-        );
+        let formula = repeated(&rt, head, part, *times, tail);
+        is_marked(&rt, RING, formula.as_str(), wanted);
     }
+}
+
+// Whether all marks are `y`.
+fn are_all(marks: &[u8]) -> bool {
+    for mark in marks {
+        if *mark != b'y' {
+            return false;
+        }
+    }
+    true
 }
 
 #[test]
 fn a_long_ring_leads_back(rt: HostRuntime) {
     let text = ring(rt.alloc(), 2500).expect(&rt, "memory");
     let shown = marks(&rt, text.as_str(), "[true*]<true*>(<a>true)");
-    assert!(rt; shown.len() == 2500);
-    assert!(rt; shown.as_str().bytes().all(|mark| mark == b'y'));
+    holds!(&rt; shown.len() == 2500);
+    holds!(&rt; are_all(shown.as_bytes()));
+    drop(shown);
+    drop(text);
 }

@@ -1,8 +1,8 @@
 // Labels whose bytes meet at one place of the reader's index: of each pair of eight bytes either may stand, and 64-bit FNV-1a agrees in its lowest
 // fifty bits on both. Another program looked for the pairs.
 
-use lts::{Lts, read_aut};
-use std::alloc::{AllocError, Global};
+use crate::common::{holds, push_step, push_text, repeated, system};
+use lts::Lts;
 use std::process::Abort;
 
 static PAIRS: [(&str, &str); 7] = [
@@ -16,30 +16,45 @@ static PAIRS: [(&str, &str); 7] = [
 ];
 
 // So many labels are made of them.
-const LABELS: usize = 128;
+const LABELS: u32 = 128;
 
-// Of each pair the first or the second, as the digits of the number say.
-fn label(alloc: Global, number: usize) -> Result<String, AllocError> {
-    let mut text = String::new(alloc);
+fn push_parts(rt: &impl Abort, text: &mut String, number: u32) {
     let mut left = number;
     for (first, second) in &PAIRS {
-        text.push_str(if left % 2 == 0 { first } else { second })?;
+        push_text(rt, text, if left % 2 == 0 { first } else { second });
         left /= 2;
     }
-    Ok(text)
+}
+
+// Of each pair the first or the second, as the digits of the number say.
+fn label(rt: &(impl Abort + AllocGlobal), number: u32) -> String {
+    let mut text = String::new(rt.alloc());
+    push_parts(rt, &mut text, number);
+    text
+}
+
+const STATES: u32 = 2 * LABELS;
+
+// The step from a state to the next one.
+fn push_state(rt: &(impl Abort + AllocGlobal), text: &mut String, state: u32) {
+    let label = label(rt, state % LABELS);
+    push_step(
+        rt,
+        text,
+        state,
+        label.as_str(),
+        state.wrapping_add(1) % STATES,
+    );
+    drop(label);
 }
 
 // A ring of twice as many states, from each of which one step leads on: each label stands on two of them.
-fn ring(alloc: Global) -> Result<String, AllocError> {
-    let states = 2 * LABELS;
-    let mut text = format!(in alloc; "des (0,{states},{states})\n")?;
-    for state in 0..states {
-        let name = label(alloc, state % LABELS)?;
-        let next = (state + 1) % states;
-        let line = format!(in alloc; "({state},\"{name}\",{next})\n")?;
-        text.push_str(line.as_str())?;
+fn ring(rt: &(impl Abort + AllocGlobal)) -> String {
+    let mut text = repeated(rt, "des (0,256,256)\n", "", 0, "");
+    for state in 0..STATES {
+        push_state(rt, &mut text, state);
     }
-    Ok(text)
+    text
 }
 
 // The label of the only step from a state.
@@ -47,18 +62,31 @@ fn label_from(system: &Lts, state: u32) -> Option<&[u8]> {
     if state >= system.states() {
         return None;
     }
-    let step = system.from(state).first()?;
-    Some(system.label(step.label).bytes)
+    match system.from(state).first() {
+        Some(step) => Some(system.label(step.label).bytes),
+        None => None,
+    }
+}
+
+fn has_label(rt: &(impl Abort + AllocGlobal), system: &Lts, state: u32) {
+    let wanted = label(rt, state % LABELS);
+    holds!(rt; label_from(system, state) == Some(wanted.as_bytes()), wanted.as_str());
+    drop(wanted);
+}
+
+fn have_labels(rt: &(impl Abort + AllocGlobal), system: &Lts) {
+    for state in 0..STATES {
+        has_label(rt, system, state);
+    }
 }
 
 #[test]
 fn each_is_told_from_the_others(rt: HostRuntime) {
-    let text = ring(rt.alloc()).expect(&rt, "memory");
-    let system = read_aut(rt.alloc(), text.as_bytes()).expect(&rt, "a system");
-    assert!(rt; system.labels() == LABELS);
-    assert!(rt; system.transitions() == 2 * LABELS);
-    for state in 0..2 * LABELS {
-        let wanted = label(rt.alloc(), state % LABELS).expect(&rt, "memory");
-        assert!(rt; label_from(&system, state as u32) == Some(wanted.as_bytes()));
-    }
+    let text = ring(&rt);
+    let system = system(&rt, text.as_str());
+    holds!(&rt; system.labels() == LABELS as usize);
+    holds!(&rt; system.transitions() == STATES as usize);
+    have_labels(&rt, &system);
+    drop(system);
+    drop(text);
 }

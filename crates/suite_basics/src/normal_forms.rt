@@ -1,14 +1,15 @@
 // Normal forms, worked out by hand: negations moved inwards by the equations of Kozen 1983, and nodes in preorder.
 
-use crate::common::same;
+use crate::common::{form, holds, is_either, repeated, same};
 use calculus::closed::Closed;
 use calculus::tree::Act;
 use forms::form::Normal;
 use forms::node::Kind;
 use normal::count::counted_nodes;
 use normal::make::normal;
-use samples::texts::{form_of, parsed_formula, repeated_text};
+use samples::texts::parsed_formula;
 use std::alloc::{AllocError, Global};
+use std::process::Abort;
 
 // The name of a multi-action of one name of these tests.
 fn letter(action: &Act) -> &'static str {
@@ -79,25 +80,32 @@ fn has_nodes(form: &Normal, nodes: &[Row]) -> bool {
     true
 }
 
-fn is_numbered(alloc: Global, text: &str, nodes: &[Row]) -> bool {
-    match form_of(alloc, text) {
-        Some(form) => has_nodes(&form, nodes),
-        None => false,
-    }
+fn is_numbered(rt: &(impl Abort + AllocGlobal), text: &str, nodes: &[Row]) {
+    let form = form(rt, text);
+    holds!(rt; has_nodes(&form, nodes), text);
+    drop(form);
 }
 
 #[test]
 fn nodes_are_numbered_in_preorder(rt: HostRuntime) {
-    assert!(rt; is_numbered(rt.alloc(), "<a + + b>true", &CHOICE));
-    assert!(rt; is_numbered(rt.alloc(), "!(<a>true && mu X. [b]X)", &NEGATION));
+    is_numbered(&rt, "<a + + b>true", &CHOICE);
+    is_numbered(&rt, "!(<a>true && mu X. [b]X)", &NEGATION);
 }
 
-// How many nodes are counted, how many there are and how deep binders alternate, or the refusal.
+// How many nodes are counted, how many there are and how deep binders alternate.
+fn sizes(alloc: Global, formula: &Closed, form: &Normal) -> Result<String, AllocError> {
+    let counted = counted_nodes(formula.tree()).unwrap_or(0);
+    let (nodes, depth) = (form.nodes().len(), form.depth());
+    format!(in alloc; "{counted} {nodes} {depth}")
+}
+
+// The same of a formula, or the refusal.
 fn size_of(alloc: Global, formula: &Closed) -> Result<String, AllocError> {
     match normal(alloc, formula) {
         Ok(form) => {
-            let counted = counted_nodes(formula.tree()).unwrap_or(0);
-            format!(in alloc; "{counted} {} {}", form.nodes().len(), form.depth())
+            let sizes = sizes(alloc, formula, &form);
+            drop(form);
+            sizes
         }
         Err(error) => error.to_string(alloc),
     }
@@ -105,8 +113,20 @@ fn size_of(alloc: Global, formula: &Closed) -> Result<String, AllocError> {
 
 // The same of a text, if it is a formula.
 fn size(alloc: Global, text: &str) -> Option<String> {
-    let formula = parsed_formula(alloc, text).ok()?;
-    size_of(alloc, &formula).ok()
+    match parsed_formula(alloc, text) {
+        Ok(formula) => {
+            let size = size_of(alloc, &formula);
+            drop(formula);
+            size.ok()
+        }
+        Err(_) => None,
+    }
+}
+
+fn is_sized(rt: &(impl Abort + AllocGlobal), what: &str, text: &str, wanted: &str) {
+    let told = size(rt.alloc(), text).expect(rt, "a formula");
+    same(rt, what, told.as_str(), wanted);
+    drop(told);
 }
 
 // A beginning, a piece and how often it stands, and an end; and what is shown.
@@ -122,9 +142,8 @@ static SIZES: [(&str, &str, usize, &str, &str); 6] = [
 #[test]
 fn limits_are_met_exactly(rt: HostRuntime) {
     for (head, part, times, tail, wanted) in &SIZES {
-        let text = repeated_text(rt.alloc(), head, part, *times, tail).expect(&rt, "memory");
-        let told = size(rt.alloc(), text.as_str()).expect(&rt, "a formula");
-        same(&rt, head, told.as_str(), wanted);
+        let text = repeated(&rt, head, part, *times, tail);
+        is_sized(&rt, head, text.as_str(), wanted);
     }
 }
 
@@ -132,6 +151,7 @@ fn limits_are_met_exactly(rt: HostRuntime) {
 #[test]
 fn want_of_memory_is_told_as_such(rt: HostRuntime) {
     if let Some(told) = size(rt.alloc(), "nu X. <a|b + \"c\"*>X") {
-        assert!(rt; told.as_str() == "9 9 2" || told.as_str() == "N3", "{told}");
+        is_either(&rt, told.as_str(), "9 9 2", "N3");
+        drop(told);
     }
 }

@@ -1,13 +1,14 @@
 // The texts of normal forms, and their first lines by either rule of priorities. Worked examples.
 
-use crate::common::same;
+use crate::common::{form, formula, has_taken, holds, holds_for, repeated, same};
 use calculus::closed::Closed;
+use forms::form::Normal;
 use forms::priorities::Priorities;
+use normal::error::NormalError;
 use normal::make::normal_with;
 use normal::printer::print_normal;
-use samples::texts::{form_of, parsed_formula, repeated_text};
 use samples::writers::{AMPLE, Narrow};
-use std::alloc::{AllocError, Global};
+use std::process::Abort;
 
 // Two texts in full.
 static TEXTS: [(&str, &str); 2] = [
@@ -21,48 +22,73 @@ static TEXTS: [(&str, &str); 2] = [
     ),
 ];
 
-// Whether a writer with so much room has the beginning of the text, and is told of a fault just where that isn't all.
-fn is_written(alloc: Global, text: &str, wanted: &str, room: usize) -> bool {
-    let Some(form) = form_of(alloc, text) else {
-        return false;
-    };
-    let mut out = Narrow::new(alloc, 7, room);
-    let is_whole = print_normal(&form, &mut out).is_ok();
-    let front = room.min(wanted.len());
-    is_whole == (room >= wanted.len()) && out.taken.as_slice() == &wanted.as_bytes()[..front]
+// A writer with so much room has the beginning of the text, and is told of a fault just where that isn't all.
+fn is_written(rt: &(impl Abort + AllocGlobal), form: &Normal, wanted: &str, room: usize) {
+    let mut out = Narrow::new(rt.alloc(), 7, room);
+    let is_whole = print_normal(form, &mut out).is_ok();
+    holds_for(rt, is_whole == (room >= wanted.len()), room);
+    holds_for(rt, has_taken(&out, room.min(wanted.len()), wanted), room);
+    drop(out);
+}
+
+static ROOMS: [usize; 6] = [0, 1, 26, 27, 40, AMPLE];
+
+fn is_written_of(rt: &(impl Abort + AllocGlobal), text: &str, wanted: &str) {
+    let form = form(rt, text);
+    for room in &ROOMS {
+        is_written(rt, &form, wanted, *room);
+    }
+    drop(form);
 }
 
 #[test]
 fn texts_are_written_in_full(rt: HostRuntime) {
     for (text, wanted) in &TEXTS {
-        for room in [0, 1, 26, 27, 40, AMPLE] {
-            assert!(rt; is_written(rt.alloc(), text, wanted, room), "{text} {room}");
-        }
+        is_written_of(&rt, text, wanted);
     }
 }
 
-// The first line of the text, or the refusal.
-fn first_line_of(alloc: Global, formula: &Closed, rule: Priorities) -> Result<String, AllocError> {
-    let form = match normal_with(alloc, formula, rule) {
-        Ok(form) => form,
-        Err(error) => return error.to_string(alloc),
-    };
-    let mut out = Narrow::new(alloc, AMPLE, AMPLE);
-    let mut line = String::new(alloc);
-    if print_normal(&form, &mut out).is_ok() {
-        for byte in &out.taken {
-            if *byte == b'\n' {
-                break;
-            }
-            line.push(char::from(*byte))?;
-        }
-    }
-    Ok(line)
+// The text of a normal form.
+fn text_of(rt: &(impl Abort + AllocGlobal), form: &Normal) -> Vec<u8> {
+    let mut out = Narrow::new(rt.alloc(), AMPLE, AMPLE);
+    holds!(rt; print_normal(form, &mut out).is_ok());
+    out.taken
 }
 
-fn first_line(alloc: Global, text: &str, rule: Priorities) -> Option<String> {
-    let formula = parsed_formula(alloc, text).ok()?;
-    first_line_of(alloc, &formula, rule).ok()
+// Whether this is the first line of a text.
+fn is_first_line(text: &[u8], line: &str) -> bool {
+    let end = line.len();
+    text.starts_with(line.as_bytes()) && end < text.len() && text[end] == b'\n'
+}
+
+fn has_first_line(rt: &(impl Abort + AllocGlobal), form: &Normal, wanted: &str) {
+    let text = text_of(rt, form);
+    holds!(rt; is_first_line(text.as_slice(), wanted), wanted);
+    drop(text);
+}
+
+fn has_refusal(rt: &(impl Abort + AllocGlobal), error: &NormalError, wanted: &str) {
+    let told = error.to_string(rt.alloc()).expect(rt, "memory");
+    same(rt, "refusal", told.as_str(), wanted);
+    drop(told);
+}
+
+// The first line of the text, or the refusal, is this.
+fn begins(rt: &(impl Abort + AllocGlobal), formula: &Closed, rule: Priorities, wanted: &str) {
+    match normal_with(rt.alloc(), formula, rule) {
+        Ok(form) => {
+            has_first_line(rt, &form, wanted);
+            drop(form);
+        }
+        Err(error) => has_refusal(rt, &error, wanted),
+    }
+}
+
+fn begins_by_rules(rt: &(impl Abort + AllocGlobal), text: &str, nested: &str, dependent: &str) {
+    let formula = formula(rt, text);
+    begins(rt, &formula, Priorities::Nested, nested);
+    begins(rt, &formula, Priorities::Dependent, dependent);
+    drop(formula);
 }
 
 // A beginning, a piece and how often it stands, and an end; the first line by the nested rule, and by the dependent one.
@@ -121,15 +147,7 @@ static LINES: [(&str, &str, usize, &str, &str, &str); 7] = [
 #[test]
 fn first_lines_are_those_of_the_rule(rt: HostRuntime) {
     for (head, part, times, tail, nested, dependent) in &LINES {
-        let text = repeated_text(rt.alloc(), head, part, *times, tail).expect(&rt, "memory");
-        let by_nested = first_line(rt.alloc(), text.as_str(), Priorities::Nested);
-        let by_dependent = first_line(rt.alloc(), text.as_str(), Priorities::Dependent);
-        same(&rt, head, by_nested.expect(&rt, "a line").as_str(), nested);
-        same(
-            &rt,
-            head,
-            by_dependent.expect(&rt, "a line").as_str(),
-            dependent,
-        );
+        let text = repeated(&rt, head, part, *times, tail);
+        begins_by_rules(&rt, text.as_str(), nested, dependent);
     }
 }

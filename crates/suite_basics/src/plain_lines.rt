@@ -2,40 +2,46 @@
 // token. What a line is read as doesn't depend on the block: a reader that hands out a byte at a time never has a whole line at hand. What is wanted
 // was written by hand from docs/FORMATS.md.
 
-use crate::common::same;
-use lts::{read_aut, write_aut};
+use crate::common::{repeated, same, slow};
+use lts::{Lts, read_aut, write_aut};
 use samples::dice::Dice;
-use samples::readers::Slow;
-use samples::texts::{repeated_text, ring};
+use samples::texts::ring;
 use std::alloc::{AllocError, Global};
 use std::process::Abort;
 
-// A byte at a time, less than a line, and more than a block.
-const STEPS: [usize; 3] = [1, 7, 10_000];
-
-// The canonical text of the system, or the refusal.
-fn told(alloc: Global, text: &[u8], step: usize) -> Result<String, AllocError> {
-    let reader = Slow {
-        left: text,
-        step,
-        fails: false,
-    };
-    let lts = match read_aut(alloc, reader) {
-        Ok(lts) => lts,
-        Err(error) => return error.to_string(alloc),
-    };
+// The text of a system.
+fn text_of(alloc: Global, lts: &Lts) -> Result<String, AllocError> {
     let mut out = Vec::new(alloc);
-    if write_aut(&lts, &mut out).is_err() {
+    if write_aut(lts, &mut out).is_err() {
         return Err(AllocError);
     }
     String::from_utf8(out).map_err(|_| AllocError)
 }
 
+// The canonical text of the system, or the refusal.
+fn told(rt: &(impl Abort + AllocGlobal), text: &[u8], step: usize) -> String {
+    let told = match read_aut(rt.alloc(), slow(text, step)) {
+        Ok(lts) => {
+            let text = text_of(rt.alloc(), &lts);
+            drop(lts);
+            text
+        }
+        Err(error) => error.to_string(rt.alloc()),
+    };
+    told.expect(rt, "memory")
+}
+
+fn is_told(rt: &(impl Abort + AllocGlobal), text: &[u8], step: usize, wanted: &str) {
+    let told = told(rt, text, step);
+    same(rt, wanted, told.as_str(), wanted);
+    drop(told);
+}
+
+// A byte at a time, less than a line, and more than a block.
 fn tells(rt: &(impl Abort + AllocGlobal), text: &[u8], wanted: &str) {
-    for step in STEPS {
-        let told = told(rt.alloc(), text, step).expect(rt, "memory");
-        same(rt, wanted, told.as_str(), wanted);
-    }
+    is_told(rt, text, 1, wanted);
+    is_told(rt, text, 7, wanted);
+    is_told(rt, text, 10_000, wanted);
 }
 
 const BEFORE: &str = "des (0,3,12)\n(0,\"a\",1)\n";
@@ -91,15 +97,20 @@ static BAD_LINES: [(&str, &str); 28] = [
 ];
 
 fn tells_with(rt: &(impl Abort + AllocGlobal), line: &str, wanted: &str) {
-    let text = repeated_text(rt.alloc(), BEFORE, line, 1, AFTER).expect(rt, "memory");
+    let text = repeated(rt, BEFORE, line, 1, AFTER);
     tells(rt, text.as_bytes(), wanted);
+    drop(text);
+}
+
+#[test]
+fn a_good_line_is_read_as_the_same_off_any_block(rt: HostRuntime) {
+    for line in &GOOD_LINES {
+        tells_with(&rt, line, GOOD);
+    }
 }
 
 #[test]
 fn a_line_is_read_as_the_same_off_any_block(rt: HostRuntime) {
-    for line in &GOOD_LINES {
-        tells_with(&rt, line, GOOD);
-    }
     for (line, wanted) in &BAD_LINES {
         tells_with(&rt, line, wanted);
     }
@@ -117,12 +128,16 @@ static CUTS: [(usize, usize, &str); 8] = [
     (50, 51, GOOD),
 ];
 
+fn are_cut(rt: &(impl Abort + AllocGlobal), least: usize, most: usize, wanted: &str) {
+    for length in least..=most {
+        tells(rt, &GOOD.as_bytes()[..length.min(GOOD.len())], wanted);
+    }
+}
+
 #[test]
 fn a_text_is_cut_at_each_byte(rt: HostRuntime) {
     for (least, most, wanted) in &CUTS {
-        for length in *least..=*most {
-            tells(&rt, &GOOD.as_bytes()[..length.min(GOOD.len())], wanted);
-        }
+        are_cut(&rt, *least, *most, wanted);
     }
 }
 
@@ -131,38 +146,48 @@ fn a_text_is_cut_at_each_byte(rt: HostRuntime) {
 fn lines_go_on_in_the_next_block(rt: HostRuntime) {
     let wanted = ring(rt.alloc(), 1200).expect(&rt, "memory");
     for blanks in 0..20 {
-        let text = repeated_text(rt.alloc(), "", " ", blanks, wanted.as_str()).expect(
-            &rt, "memory",
-        );
+        let text = repeated(&rt, "", " ", blanks, wanted.as_str());
         tells(&rt, text.as_bytes(), wanted.as_str());
     }
+    drop(wanted);
 }
 
 // Bytes that stand in lines, and some that never do.
-const BYTES: [u8; 16] = *b"(),\"019ab|\r\n\t x\x7f";
+static BYTES: [u8; 16] = *b"(),\"019ab|\r\n\t x\x7f";
 
 // The good text has so many bytes.
 const PLACES: u32 = 51;
 
-// A text of good lines, in which some bytes are put in the place of others.
-fn roll_text(rt: &impl AllocGlobal, dice: &mut Dice) -> Result<Vec<u8>, AllocError> {
-    let mut text = Vec::from_slice(rt.alloc(), GOOD.as_bytes())?;
+// Some bytes of a text are put in the place of others.
+fn spoil(dice: &mut Dice, text: &mut [u8]) {
     for _ in 0..dice.roll(3) {
         let place = dice.roll(PLACES) as usize;
         let byte = BYTES[dice.roll(16) as usize];
-        if let Some(other) = text.get_mut(place) {
-            *other = byte;
+        if place < text.len() {
+            text[place] = byte;
         }
     }
-    Ok(text)
+}
+
+// A text of good lines, in which some bytes are put in the place of others.
+fn roll_text(rt: &(impl Abort + AllocGlobal), dice: &mut Dice) -> Vec<u8> {
+    let mut text = Vec::from_slice(rt.alloc(), GOOD.as_bytes()).expect(rt, "memory");
+    spoil(dice, text.as_mut_slice());
+    text
+}
+
+// A text is told of as it is where a byte comes at a time.
+fn tells_alike(rt: &(impl Abort + AllocGlobal), text: &[u8]) {
+    let wanted = told(rt, text, 1);
+    tells(rt, text, wanted.as_str());
+    drop(wanted);
 }
 
 #[test]
 fn texts_at_random_are_read_as_the_same_off_any_block(rt: HostRuntime) {
     let mut dice = Dice::new(20_231);
     for _ in 0..3000 {
-        let text = roll_text(&rt, &mut dice).expect(&rt, "memory");
-        let wanted = told(rt.alloc(), text.as_slice(), 1).expect(&rt, "memory");
-        tells(&rt, text.as_slice(), wanted.as_str());
+        let text = roll_text(&rt, &mut dice);
+        tells_alike(&rt, text.as_slice());
     }
 }

@@ -1,32 +1,58 @@
 // Words of formulas that no label of a system has. The systems are small, and which words are strange was read off them.
 
-use crate::common::same;
+use crate::common;
+use crate::common::{holds, push_text, repeated, same};
+use calculus::closed::Closed;
 use hints::absent::first_absent;
 use hints::strange::{Word, strange_words};
-use samples::texts::{RING, parsed_formula, repeated_text, system_read};
-use std::alloc::{AllocError, Global};
+use lts::Lts;
+use samples::texts::RING;
 use std::process::Abort;
 
+// A word's kind, the word, and a semicolon.
+fn push_word(rt: &impl Abort, text: &mut String, kind: &str, bytes: &[u8]) {
+    push_text(rt, text, kind);
+    push_text(rt, text, str::from_utf8(bytes).unwrap_or("no text"));
+    push_text(rt, text, ";");
+}
+
 /// The words, each with its kind, in their order.
-fn shown(alloc: Global, words: &[Word<'_>]) -> Result<String, AllocError> {
-    let mut text = String::new(alloc);
+fn shown(rt: &(impl Abort + AllocGlobal), words: &[Word<'_>]) -> String {
+    let mut text = String::new(rt.alloc());
     for word in words {
-        let (kind, bytes) = match *word {
-            Word::Name(bytes) => ("name", bytes),
-            Word::Atom(bytes) => ("atom", bytes),
-        };
-        let bytes = str::from_utf8(bytes).unwrap_or("no text");
-        write!(text, "{kind} {bytes};")?;
+        match *word {
+            Word::Name(bytes) => push_word(rt, &mut text, "name ", bytes),
+            Word::Atom(bytes) => push_word(rt, &mut text, "atom ", bytes),
+        }
     }
-    Ok(text)
+    text
+}
+
+fn words<'f>(rt: &(impl Abort + AllocGlobal), system: &Lts, formula: &'f Closed) -> Vec<Word<'f>> {
+    strange_words(rt.alloc(), system, formula).expect(rt, "memory")
+}
+
+fn shown_of(rt: &(impl Abort + AllocGlobal), system: &Lts, formula: &Closed) -> String {
+    let words = words(rt, system, formula);
+    let shown = shown(rt, words.as_slice());
+    drop(words);
+    shown
 }
 
 /// The strange words of these texts.
 fn strange(rt: &(impl Abort + AllocGlobal), system: &str, formula: &str) -> String {
-    let system = system_read(rt.alloc(), system).expect(rt, "a system");
-    let formula = parsed_formula(rt.alloc(), formula).expect(rt, "a formula");
-    let words = strange_words(rt.alloc(), &system, &formula).expect(rt, "memory");
-    shown(rt.alloc(), &words).expect(rt, "memory")
+    let system = common::system(rt, system);
+    let formula = common::formula(rt, formula);
+    let shown = shown_of(rt, &system, &formula);
+    drop(formula);
+    drop(system);
+    shown
+}
+
+fn is_strange(rt: &(impl Abort + AllocGlobal), system: &str, formula: &str, wanted: &str) {
+    let found = strange(rt, system, formula);
+    same(rt, formula, found.as_str(), wanted);
+    drop(found);
 }
 
 /// Labels of every kind: two names, one name, the empty multiset, and a label that is read as nothing.
@@ -55,24 +81,18 @@ static STRANGE: [(&str, &str, &str); 12] = [
 #[test]
 fn strange_words_are_told_once_and_in_order(rt: HostRuntime) {
     for (system, formula, wanted) in &STRANGE {
-        let found = strange(&rt, system, formula);
-        same(&rt, formula, found.as_str(), wanted);
+        is_strange(&rt, system, formula, wanted);
     }
 }
 
 #[test]
 fn no_more_than_ten_are_told(rt: HostRuntime) {
     let formula = "<l|k|j|i|h|g|f|e|d|c>true && <m>true";
-    let found = strange(&rt, RING, formula);
     let ten = "name c;name d;name e;name f;name g;name h;name i;name j;name k;name l;";
-    same(&rt, formula, found.as_str(), ten);
-    let long = repeated_text(rt.alloc(), "", "<a>", 200, "<z>true").expect(&rt, "memory");
-    same(
-        &rt,
-        "long",
-        strange(&rt, RING, long.as_str()).as_str(),
-        "name z;",
-    );
+    is_strange(&rt, RING, formula, ten);
+    let long = repeated(&rt, "", "<a>", 200, "<z>true");
+    is_strange(&rt, RING, long.as_str(), "name z;");
+    drop(long);
 }
 
 /// A system, the text of a formula, and where its first word begins that is on no transition.
@@ -92,11 +112,19 @@ static ABSENT: [(&str, &str, Option<usize>); 13] = [
     (KINDS, "<true>[false*]<\"tau\" || \"a\">true", Some(24)),
 ];
 
+fn absent(rt: &(impl Abort + AllocGlobal), system: &Lts, formula: &str) -> Option<usize> {
+    first_absent(rt.alloc(), system, formula.as_bytes()).expect(rt, "memory")
+}
+
+fn is_absent(rt: &(impl Abort + AllocGlobal), system: &str, formula: &str, wanted: Option<usize>) {
+    let system = common::system(rt, system);
+    holds!(rt; absent(rt, &system, formula) == wanted, formula);
+    drop(system);
+}
+
 #[test]
 fn the_first_absent_word_has_its_place(rt: HostRuntime) {
     for (system, formula, wanted) in &ABSENT {
-        let system = system_read(rt.alloc(), system).expect(&rt, "a system");
-        let found = first_absent(rt.alloc(), &system, formula.as_bytes());
-        assert!(rt; found.expect(&rt, "memory") == *wanted, "{formula}");
+        is_absent(&rt, system, formula, *wanted);
     }
 }

@@ -1,10 +1,10 @@
 // Texts of systems and what is wrong with them: the Aldebaran format of the mCRL2 manual, with its limits and codes as
 // docs/FORMATS.md has them. States and transitions were counted by hand.
 
-use crate::common::same;
-use lts::{Lts, read_aut};
-use samples::readers::{Halting, Slow};
-use samples::texts::{RING, repeated_text, system_read};
+use crate::common::{failing, holds, is_either, repeated, same, slow, system};
+use lts::{Lts, Transition, read_aut};
+use samples::readers::Halting;
+use samples::texts::RING;
 use std::alloc::{AllocError, Global};
 use std::io::Read;
 use std::process::Abort;
@@ -12,7 +12,11 @@ use std::process::Abort;
 // The states, the initial state, the transitions and the labels, or the refusal.
 fn shown<R: Read + Drop>(alloc: Global, reader: R) -> Result<String, AllocError> {
     match read_aut(alloc, reader) {
-        Ok(lts) => counts(alloc, &lts),
+        Ok(lts) => {
+            let counts = counts(alloc, &lts);
+            drop(lts);
+            counts
+        }
         Err(error) => error.to_string(alloc),
     }
 }
@@ -53,20 +57,17 @@ static TEXTS: [(&str, &str); 21] = [
     ("dess (0,0,1)", "A1 at line 1"),
 ];
 
+// What is shown of what a reader gives is this.
+fn is_shown<R: Read + Drop>(rt: &(impl Abort + AllocGlobal), what: &str, reader: R, wanted: &str) {
+    let told = shown(rt.alloc(), reader).expect(rt, "memory");
+    same(rt, what, told.as_str(), wanted);
+    drop(told);
+}
+
 fn shows(rt: &(impl Abort + AllocGlobal), text: &str, wanted: &str) {
-    for step in [1, 7, 8192] {
-        let reader = Slow {
-            left: text.as_bytes(),
-            step,
-            fails: false,
-        };
-        same(
-            rt,
-            text,
-            shown(rt.alloc(), reader).expect(rt, "memory").as_str(),
-            wanted,
-        );
-    }
+    is_shown(rt, text, slow(text.as_bytes(), 1), wanted);
+    is_shown(rt, text, slow(text.as_bytes(), 7), wanted);
+    is_shown(rt, text, slow(text.as_bytes(), 8192), wanted);
 }
 
 #[test]
@@ -76,14 +77,17 @@ fn texts_are_read(rt: HostRuntime) {
     }
 }
 
+// A label of so many bytes.
+fn shows_label(rt: &(impl Abort + AllocGlobal), length: usize, wanted: &str) {
+    let text = repeated(rt, "des (0,1,1)\n(0,\"", "a", length, "\",0)\n");
+    shows(rt, text.as_str(), wanted);
+    drop(text);
+}
+
 #[test]
 fn labels_have_at_most_4096_bytes(rt: HostRuntime) {
-    for (length, wanted) in [(4096, "1 0 1 1"), (4097, "A7 at line 2")] {
-        let text = repeated_text(rt.alloc(), "des (0,1,1)\n(0,\"", "a", length, "\",0)\n").expect(
-            &rt, "memory",
-        );
-        shows(&rt, text.as_str(), wanted);
-    }
+    shows_label(&rt, 4096, "1 0 1 1");
+    shows_label(&rt, 4097, "A7 at line 2");
 }
 
 // Heads, a part that is repeated a hundred thousand times, tails, and what is shown.
@@ -100,9 +104,8 @@ static LONG_LINES: [(&str, &str, &str, &str); 7] = [
 #[test]
 fn long_lines_are_read(rt: HostRuntime) {
     for (head, part, tail, wanted) in &LONG_LINES {
-        let text = repeated_text(rt.alloc(), head, part, 100_000, tail).expect(&rt, "memory");
-        let told = shown(rt.alloc(), text.as_bytes()).expect(&rt, "memory");
-        same(&rt, part, told.as_str(), wanted);
+        let text = repeated(&rt, head, part, 100_000, tail);
+        is_shown(&rt, part, text.as_bytes(), wanted);
     }
 }
 
@@ -110,17 +113,7 @@ fn long_lines_are_read(rt: HostRuntime) {
 #[test]
 fn a_failed_read_is_told_wherever_it_comes(rt: HostRuntime) {
     for given in 0..=RING.len() {
-        let reader = Slow {
-            left: &RING.as_bytes()[..given],
-            step: 5,
-            fails: true,
-        };
-        same(
-            &rt,
-            "a beginning",
-            shown(rt.alloc(), reader).expect(&rt, "memory").as_str(),
-            "A8",
-        );
+        is_shown(&rt, "a beginning", failing(RING.as_bytes(), 5, given), "A8");
     }
 }
 
@@ -130,12 +123,7 @@ fn an_interrupted_read_is_tried_again(rt: HostRuntime) {
         left: RING.as_bytes(),
         is_interrupted: false,
     };
-    same(
-        &rt,
-        RING,
-        shown(rt.alloc(), reader).expect(&rt, "memory").as_str(),
-        "2 0 2 2",
-    );
+    is_shown(&rt, RING, reader, "2 0 2 2");
 }
 
 // Each growth may be refused: then nothing but that is told. tests/refusals refuses each in turn.
@@ -143,38 +131,41 @@ fn an_interrupted_read_is_tried_again(rt: HostRuntime) {
 fn want_of_memory_is_told_as_such(rt: HostRuntime) {
     let text = "des (2,4,3)\n(2,\"c|a|b\",0)\n(0,\"tau\",2)\n(2,\"c|a|b\",0)\n(1,\"r(1)\",1)\n";
     if let Ok(told) = shown(rt.alloc(), text.as_bytes()) {
-        assert!(rt;
-            told.as_str() == "3 2 3 3" || told.as_str() == "A9",
-            "{told}"
-        );
+        is_either(&rt, told.as_str(), "3 2 3 3", "A9");
+        drop(told);
     }
 }
 
+// A text gets the label of a transition, and a blank.
+fn push_label(rt: &impl Abort, text: &mut Vec<u8>, lts: &Lts, transition: &Transition) {
+    holds!(rt; (transition.label as usize) < lts.labels());
+    let label = lts.label(transition.label).bytes;
+    text.extend_from_slice(label).expect(rt, "memory");
+    text.push(b' ').expect(rt, "memory");
+}
+
 // The transitions of a state, each with its label.
-fn moves(rt: &(impl Abort + AllocGlobal), lts: &Lts, state: u32) -> Vec<u8> {
-    let mut text = Vec::new(rt.alloc());
-    assert!(rt; state < lts.states());
+fn push_labels(rt: &impl Abort, text: &mut Vec<u8>, lts: &Lts, state: u32) {
+    holds!(rt; state < lts.states());
     for transition in lts.from(state) {
-        assert!(rt; (transition.label as usize) < lts.labels());
-        text.extend_from_slice(lts.label(transition.label).bytes)
-            .expect(rt, "memory");
-        text.push(b' ').expect(rt, "memory");
+        push_label(rt, text, lts, transition);
     }
-    text
+}
+
+fn moves(rt: &(impl Abort + AllocGlobal), lts: &Lts, state: u32, labels: &str) {
+    let mut text = Vec::new(rt.alloc());
+    push_labels(rt, &mut text, lts, state);
+    holds!(rt; text.as_slice() == labels.as_bytes(), labels);
+    drop(text);
 }
 
 #[test]
 fn transitions_are_found_by_their_state(rt: HostRuntime) {
-    let lts = system_read(
-        rt.alloc(),
-        "des (0,4,3)\n(2,\"b\",0)\n(0,\"tau\",2)\n(2,\"a|b\",1)\n(2,\"b\",2)\n",
-    )
-    .expect(&rt, "a system");
-    for (state, labels) in [(0, "tau "), (1, ""), (2, "a|b b b ")] {
-        assert!(rt;
-            moves(&rt, &lts, state).as_slice() == labels.as_bytes(),
-            "{labels}"
-        );
-    }
-    assert!(rt; lts.all().len() == 4);
+    let text = "des (0,4,3)\n(2,\"b\",0)\n(0,\"tau\",2)\n(2,\"a|b\",1)\n(2,\"b\",2)\n";
+    let lts = system(&rt, text);
+    moves(&rt, &lts, 0, "tau ");
+    moves(&rt, &lts, 1, "");
+    moves(&rt, &lts, 2, "a|b b b ");
+    holds!(&rt; lts.all().len() == 4);
+    drop(lts);
 }

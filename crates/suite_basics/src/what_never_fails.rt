@@ -3,6 +3,7 @@
 ghost use Rattle.std.specs.Prelude.{◌≡◌, ◌≢◌, false, None, Option, List, ℕ, IfErr, IsOk};
 ghost use Rattle.lts.specs.declared.error.AutError.TheVariants as errors;
 
+use crate::common::holds;
 use lts::error::AutError;
 use lts::reader::read_aut;
 use lts::system::Lts;
@@ -64,12 +65,12 @@ fn write(out: &mut Taking, text: &[u8]) -> Result<(), WriteFault>
 #[test]
 fn what_never_fails_is_read(rt: HostRuntime) {
     let system = read(rt.alloc(), b"des (0, 1, 2)\n(0, \"a\", 1)\n");
-    assert!(rt; system.expect(&rt, "spelled").states() == 2);
+    holds!(&rt; system.expect(&rt, "spelled").states() == 2);
 }
 
 #[test]
 fn what_never_fails_is_written_to(rt: HostRuntime) {
     let mut out = Taking { count: 0 };
-    assert!(rt; write(&mut out, b"seven..").is_ok());
-    assert!(rt; out.count == 7);
+    holds!(&rt; write(&mut out, b"seven..").is_ok());
+    holds!(&rt; out.count == 7);
 }

@@ -1,26 +1,30 @@
 // Parts of systems on which answers rest: each is written, read again and checked by sets of states, which know no game.
 
-ghost use Rattle.std.specs.Prelude.{◌≡◌, ◌<◌, ◌≤◌};
+ghost use Rattle.std.specs.Prelude.{◌≡◌, ◌<◌, ◌≤◌, IfSome};
 ghost use Rattle.systems.specs.Numbered.{IsInside};
+ghost use Rattle.evidence.specs.Evidence.{IsGood};
 ghost use Rattle.forms.specs.Normal.{normal_nodes};
 ghost use Rattle.game.specs.Arena.{arena};
 ghost use Rattle.game.specs.Game.{greatest};
 
+use crate::common::{
+    form, formula, game, has_all, has_taken, holds, holds_for, narrow, normal_form, push_step,
+    system,
+};
 use calculus::closed::Closed;
+use evidence::evidence::Evidence;
 use evidence::make::{even_evidence, odd_evidence};
 use forms::form::Normal;
 use forms::labels::label_sets;
 use forms::limits::GREATEST_PRIORITY;
-use game::build::build;
 use game::graph::Game;
 use lts::{Lts, Transition, read_aut, write_part};
 use meaning::plain::plain_states;
 use measures::settle::solve_one;
-use normal::make::normal;
+use measures::table::Settled;
 use samples::dice::Dice;
-use samples::texts::{RING, form_of, parsed_formula, system_read};
+use samples::texts::RING;
 use samples::writers::{AMPLE, AtEnd, Narrow};
-use std::alloc::{AllocError, Global};
 use std::process::Abort;
 use std::thread::Threads;
 use witness::drawing::write_drawing;
@@ -31,6 +35,83 @@ const STAYS: &str = "des (0,2,2)\n(0,\"a\",1)\n(1,\"b\",1)\n";
 
 // By `a` to two states, of which one goes on.
 const BRANCH: &str = "des (0,4,3)\n(0,\"a\",1)\n(0,\"a\",2)\n(0,\"b\",1)\n(1,\"b\",2)\n";
+
+fn solved(rt: &(impl Abort + AllocGlobal), game: &Game) -> Settled
+    ensures { result.game ≡ game.now }
+{
+    solve_one(rt.alloc(), game).expect(rt, "memory")
+}
+
+fn evens(rt: &(impl Abort + AllocGlobal), game: &Game) -> Evidence
+    ensures game { result.game ≡ game.now }
+    ensures good { IsGood game.now result.evidence }
+{
+    let settled = solved(rt, game);
+    let even = even_evidence(rt.alloc(), game, &settled).expect(rt, "memory");
+    drop(settled);
+    even
+}
+
+fn odds(rt: &(impl Abort + AllocGlobal), game: &Game) -> Evidence
+    requires low { greatest game.now ≤ GREATEST_PRIORITY }
+    ensures game { result.game ≡ game.now }
+    ensures good { IsGood game.now result.evidence }
+{
+    odd_evidence(rt.alloc(), game).expect(rt, "memory")
+}
+
+// The witness of a player, where the player wins at the initial state.
+fn part_of_player(
+    rt: &(impl Abort + AllocGlobal),
+    system: &Lts,
+    normal: &Normal,
+    game: &Game,
+    evidence: &Evidence,
+) -> Option<Vec<Transition>>
+    requires game { game.now ≡ arena system.now.system (normal_nodes normal.now) }
+    requires same { evidence.now.game ≡ game.now }
+    requires good { IsGood game.now evidence.now.evidence }
+    ensures { IfSome result (λ part. IsInside system.now part.items) }
+{
+    if !has_root(system, normal, game, evidence) {
+        return None;
+    }
+    let play = witness(rt.alloc(), system, normal, game, evidence).expect(rt, "memory");
+    Some(play.transitions)
+}
+
+// The witness of Even, where Even wins at the initial state.
+fn part_of_even(
+    rt: &(impl Abort + AllocGlobal),
+    system: &Lts,
+    normal: &Normal,
+    game: &Game,
+) -> Option<Vec<Transition>>
+    requires game { game.now ≡ arena system.now.system (normal_nodes normal.now) }
+    ensures { IfSome result (λ part. IsInside system.now part.items) }
+{
+    let even = evens(rt, game);
+    let part = part_of_player(rt, system, normal, game, &even);
+    drop(even);
+    part
+}
+
+// The witness of Odd, who wins there.
+fn part_of_odd(
+    rt: &(impl Abort + AllocGlobal),
+    system: &Lts,
+    normal: &Normal,
+    game: &Game,
+) -> Vec<Transition>
+    requires game { game.now ≡ arena system.now.system (normal_nodes normal.now) }
+    requires low { greatest game.now ≤ GREATEST_PRIORITY }
+    ensures { IsInside system.now result.items }
+{
+    let odd = odds(rt, game);
+    let part = part_of_player(rt, system, normal, game, &odd);
+    drop(odd);
+    part.expect(rt, "a winner")
+}
 
 // The witness of the player who wins at the initial state.
 fn part_of_game(
@@ -43,18 +124,10 @@ fn part_of_game(
     requires low { greatest game.now ≤ GREATEST_PRIORITY }
     ensures { IsInside system.now result.items }
 {
-    let settled = solve_one(rt.alloc(), game).expect(rt, "memory");
-    let even = even_evidence(rt.alloc(), game, &settled).expect(rt, "memory");
-    if has_root(system, normal, game, &even) {
-        let play = witness(rt.alloc(), system, normal, game, &even).expect(rt, "memory");
-        return play.transitions;
+    match part_of_even(rt, system, normal, game) {
+        Some(part) => part,
+        None => part_of_odd(rt, system, normal, game),
     }
-    let odd = odd_evidence(rt.alloc(), game).expect(rt, "memory");
-    if has_root(system, normal, game, &odd) {
-        let play = witness(rt.alloc(), system, normal, game, &odd).expect(rt, "memory");
-        return play.transitions;
-    }
-    panic!(rt; "neither player has the initial state")
 }
 
 // The witness of a formula.
@@ -65,9 +138,12 @@ fn part_of(
 ) -> Vec<Transition>
     ensures { IsInside system.now result.items }
 {
-    let normal = normal(rt.alloc(), formula).expect(rt, "a normal form");
-    let game = build(rt, rt.alloc(), system, &normal).expect(rt, "memory");
-    part_of_game(rt, system, &normal, &game)
+    let normal = normal_form(rt, formula);
+    let game = game(rt, system, &normal);
+    let part = part_of_game(rt, system, &normal, &game);
+    drop(game);
+    drop(normal);
+    part
 }
 
 // The text of a part.
@@ -75,28 +151,67 @@ fn written(rt: &(impl Abort + AllocGlobal), system: &Lts, part: &[Transition]) -
     requires { IsInside system.now part.now }
 {
     let mut out = Narrow::new(rt.alloc(), 5, AMPLE);
-    assert!(rt; write_part(system, part, &mut out).is_ok());
+    holds!(rt; write_part(system, part, &mut out).is_ok());
     out.taken
+}
+
+fn read(rt: &(impl Abort + AllocGlobal), bytes: &[u8]) -> Lts {
+    read_aut(rt.alloc(), bytes).expect(rt, "a system")
+}
+
+// The states where a formula holds.
+fn meant(rt: &(impl Abort + AllocGlobal), system: &Lts, formula: &Closed) -> Vec<bool> {
+    plain_states(rt.alloc(), system, formula).expect(rt, "memory")
+}
+
+fn is_marked(marks: &[bool], state: u32) -> bool {
+    let place = state as usize;
+    place < marks.len() && marks[place]
 }
 
 // Whether the formula holds at the initial state, by sets of states.
 fn holds_at_first(rt: &(impl Abort + AllocGlobal), system: &Lts, formula: &Closed) -> bool {
-    let marks = plain_states(rt.alloc(), system, formula).expect(rt, "memory");
-    marks
-        .get(system.initial() as usize)
-        .copied()
-        .unwrap_or(false)
+    let marks = meant(rt, system, formula);
+    let is_marked = is_marked(marks.as_slice(), system.initial());
+    drop(marks);
+    is_marked
 }
 
-// The part is a system, in which the formula holds at the initial state where it holds there in the whole. It answers the part's text.
+// The text of a part is read as a system, in which the formula holds at the initial state where it holds there in the whole.
+fn is_shown(
+    rt: &(impl Abort + AllocGlobal),
+    system: &Lts,
+    formula: &Closed,
+    bytes: &[u8],
+    transitions: usize,
+    text: &str,
+) {
+    let read = read(rt, bytes);
+    let first = holds_at_first(rt, system, formula);
+    holds!(rt; holds_at_first(rt, &read, formula) == first, text);
+    holds!(rt; read.states() == system.states() && read.transitions() == transitions, text);
+    drop(read);
+}
+
+// The part of a formula is a system that shows what the whole does. It answers the part's text.
+fn shows_part(
+    rt: &(impl Abort + AllocGlobal + Threads + Sync),
+    system: &Lts,
+    formula: &Closed,
+    text: &str,
+) -> Vec<u8> {
+    let part = part_of(rt, system, formula);
+    let bytes = written(rt, system, part.as_slice());
+    is_shown(rt, system, formula, bytes.as_slice(), part.len(), text);
+    drop(part);
+    bytes
+}
+
+// The same of a text's formula.
 fn shows(rt: &(impl Abort + AllocGlobal + Threads + Sync), system: &Lts, text: &str) -> Vec<u8> {
-    let formula = parsed_formula(rt.alloc(), text).expect(rt, "a formula");
-    let part = part_of(rt, system, &formula);
-    let bytes = written(rt, system, &part);
-    let read = read_aut(rt.alloc(), bytes.as_slice()).expect(rt, "a system");
-    let first = holds_at_first(rt, system, &formula);
-    assert!(rt; holds_at_first(rt, &read, &formula) == first, "{text}");
-    assert!(rt; read.states() == system.states() && read.transitions() == part.len());
+    let formula = formula(rt, text);
+    let bytes = shows_part(rt, system, &formula, text);
+    drop(formula);
     bytes
 }
 
@@ -121,12 +236,23 @@ static ROWS: [(&str, &str, &str); 13] = [
     ),
 ];
 
+fn rests_on(
+    rt: &(impl Abort + AllocGlobal + Threads + Sync),
+    text: &str,
+    formula: &str,
+    wanted: &str,
+) {
+    let system = system(rt, text);
+    let bytes = shows(rt, &system, formula);
+    holds!(rt; bytes.as_slice() == wanted.as_bytes(), formula);
+    drop(bytes);
+    drop(system);
+}
+
 #[test]
 fn parts_have_what_the_answer_rests_on(rt: HostRuntime) {
     for (system, formula, wanted) in &ROWS {
-        let system = system_read(rt.alloc(), system).expect(&rt, "a system");
-        let bytes = shows(&rt, &system, formula);
-        assert!(rt; bytes.as_slice() == wanted.as_bytes(), "{formula}");
+        rests_on(&rt, system, formula, wanted);
     }
 }
 
@@ -143,26 +269,64 @@ static FORMULAS: [&str; 8] = [
     "[a][b]<c>true || <a>[b]<c>true",
 ];
 
+static LABELS: [&str; 3] = ["a", "b", "c"];
+
+// Steps from a state to some of so many, each by one of three labels. The answer is how many there are.
+fn roll_steps(
+    rt: &impl Abort,
+    dice: &mut Dice,
+    lines: &mut String,
+    source: u32,
+    states: u32,
+) -> u32 {
+    let mut count = 0u32;
+    for target in 0..states {
+        if dice.roll(3) == 0 {
+            push_step(rt, lines, source, LABELS[dice.roll(3) as usize], target);
+            count = count.saturating_add(1);
+        }
+    }
+    count
+}
+
+// The steps from each state.
+fn roll_lines(rt: &impl Abort, dice: &mut Dice, lines: &mut String, states: u32) -> u32 {
+    let mut count = 0u32;
+    for source in 0..states {
+        count = count.saturating_add(roll_steps(rt, dice, lines, source, states));
+    }
+    count
+}
+
+fn system_text(
+    rt: &(impl Abort + AllocGlobal),
+    initial: u32,
+    count: u32,
+    states: u32,
+    lines: &str,
+) -> String {
+    format!(in rt.alloc(); "des ({initial},{count},{states})\n{lines}").expect(rt, "memory")
+}
+
 // A system of so many states, with a transition by one of three labels from each state to some.
 fn roll_system(rt: &(impl Abort + AllocGlobal), dice: &mut Dice, states: u32) -> Lts
     requires { 0 < states }
 {
     let mut lines = String::new(rt.alloc());
-    let mut count = 0u32;
-    for source in 0..states {
-        for target in 0..states {
-            if dice.roll(3) == 0 {
-                let label = ["a", "b", "c"][dice.roll(3) as usize];
-                write!(lines, "({source},\"{label}\",{target})\n").expect(rt, "memory");
-                count = count.saturating_add(1);
-            }
-        }
-    }
+    let count = roll_lines(rt, dice, &mut lines, states);
     let initial = dice.roll(states);
-    let text = format!(in rt.alloc(); "des ({initial},{count},{states})\n{lines}").expect(
-        rt, "memory",
-    );
-    system_read(rt.alloc(), text.as_str()).expect(rt, "a system")
+    let text = system_text(rt, initial, count, states, &lines);
+    let system = system(rt, &text);
+    drop(text);
+    drop(lines);
+    system
+}
+
+// A part of each formula.
+fn shows_all(rt: &(impl Abort + AllocGlobal + Threads + Sync), system: &Lts) {
+    for formula in &FORMULAS {
+        drop(shows(rt, system, formula));
+    }
 }
 
 #[test]
@@ -170,34 +334,95 @@ fn parts_at_random_say_what_the_whole_says(rt: HostRuntime) {
     let mut dice = Dice::new(7);
     for round in 0..300u32 {
         let system = roll_system(&rt, &mut dice, 2 + round % 5);
-        for formula in &FORMULAS {
-            shows(&rt, &system, formula);
-        }
+        shows_all(&rt, &system);
+        drop(system);
     }
 }
 
 // ---- deadlocks
 
-// How many steps from the initial state to the nearest one without a transition, if one is reached.
-fn steps_to_deadlock(alloc: Global, system: &Lts) -> Result<Option<u32>, AllocError> {
-    let mut far = vec![in alloc; u32::MAX; system.states() as usize]?;
-    far[system.initial() as usize] = 0;
-    for steps in 0..system.states() {
-        for state in 0..system.states() {
-            if far.get(state as usize) == Some(&steps) && system.from(state).is_empty() {
-                return Ok(Some(steps));
-            }
-        }
-        for transition in system.all() {
-            let (source, target) = (transition.source as usize, transition.target as usize);
-            if far.get(source) == Some(&steps) && far.get(target) == Some(&u32::MAX) {
-                if let Some(place) = far.get_mut(target) {
-                    *place = steps + 1;
-                }
-            }
+// Each state is too far, but for the initial one.
+fn distances(rt: &(impl Abort + AllocGlobal), system: &Lts) -> Vec<u32> {
+    let mut far = vec![in rt.alloc(); u32::MAX; system.states() as usize].expect(rt, "memory");
+    put(far.as_mut_slice(), system.initial(), 0);
+    far
+}
+
+// Whether a state is so far.
+fn is_far(far: &[u32], state: u32, steps: u32) -> bool {
+    let place = state as usize;
+    place < far.len() && far[place] == steps
+}
+
+// A state is so far.
+fn put(far: &mut [u32], state: u32, steps: u32) {
+    let place = state as usize;
+    if place < far.len() {
+        far[place] = steps;
+    }
+}
+
+// Whether a state that is so far has no transition.
+fn has_deadlock(system: &Lts, far: &[u32], steps: u32) -> bool {
+    for state in 0..system.states() {
+        if is_far(far, state, steps) && system.from(state).is_empty() {
+            return true;
         }
     }
-    Ok(None)
+    false
+}
+
+// What one step leads to from the states that are so far, and nothing did before.
+fn go_on(system: &Lts, far: &mut [u32], steps: u32) {
+    for transition in system.all() {
+        if is_far(far, transition.source, steps) && is_far(far, transition.target, u32::MAX) {
+            put(far, transition.target, steps.wrapping_add(1));
+        }
+    }
+}
+
+// How many steps from the initial state to the nearest one without a transition, if one is reached.
+fn steps_to_deadlock(rt: &(impl Abort + AllocGlobal), system: &Lts) -> Option<u32> {
+    let mut far = distances(rt, system);
+    for steps in 0..system.states() {
+        if has_deadlock(system, far.as_slice(), steps) {
+            return Some(steps);
+        }
+        go_on(system, far.as_mut_slice(), steps);
+    }
+    None
+}
+
+// What stands at a state of a part: how many transitions, and where they lead, if all lead to the same state.
+#[derive(Clone, Copy)]
+struct Ahead {
+    transitions: usize,
+    target: Option<u32>,
+}
+
+// The last of the transitions tells where they lead.
+fn target_of(part: &[Transition], state: u32) -> Ahead {
+    let mut ahead = Ahead {
+        transitions: 0,
+        target: None,
+    };
+    for transition in part {
+        if transition.source == state {
+            ahead.transitions = ahead.transitions.wrapping_add(1);
+            ahead.target = Some(transition.target);
+        }
+    }
+    ahead
+}
+
+// Whether all transitions of a state lead to one.
+fn lead_to(part: &[Transition], state: u32, target: u32) -> bool {
+    for transition in part {
+        if transition.source == state && transition.target != target {
+            return false;
+        }
+    }
+    true
 }
 
 // How many steps the part has from the initial state on, where all of it is one way.
@@ -205,43 +430,59 @@ fn way_of(system: &Lts, part: &[Transition]) -> Option<u32> {
     let mut state = system.initial();
     let mut passed: usize = 0;
     for steps in 0..=system.states() {
-        let mut next = None;
-        for transition in part {
-            if transition.source == state {
-                passed = passed.wrapping_add(1);
-                if next.is_some_and(|t| t != transition.target) {
-                    return None;
-                }
-                next = Some(transition.target);
-            }
-        }
-        match next {
-            Some(t) => state = t,
-            None => return if passed == part.len() {
+        let ahead = target_of(part, state);
+        let Some(target) = ahead.target else {
+            return if passed == part.len() {
                 Some(steps)
             } else {
                 None
-            },
+            };
+        };
+        if !lead_to(part, state, target) {
+            return None;
         }
+        passed = passed.wrapping_add(ahead.transitions);
+        state = target;
     }
     None
+}
+
+// Whether a system has a deadlock, which is shown by a shortest way then.
+fn is_shown_shortly(
+    rt: &(impl Abort + AllocGlobal + Threads + Sync),
+    system: &Lts,
+    formula: &Closed,
+) -> bool {
+    match steps_to_deadlock(rt, system) {
+        Some(steps) => {
+            let part = part_of(rt, system, formula);
+            holds_for(
+                rt,
+                way_of(system, part.as_slice()) == Some(steps),
+                steps as usize,
+            );
+            drop(part);
+            true
+        }
+        None => false,
+    }
 }
 
 // The evidence's ranks count the steps here, and its moves have the least; so the way is a shortest one.
 #[test]
 fn a_deadlock_is_shown_by_a_shortest_way(rt: HostRuntime) {
-    let formula = parsed_formula(rt.alloc(), "[true*]<true>true").expect(&rt, "a formula");
+    let formula = formula(&rt, "[true*]<true>true");
     let mut dice = Dice::new(11);
-    let mut found = 0u32;
+    let mut found = 0usize;
     for round in 0..200u32 {
         let system = roll_system(&rt, &mut dice, 3 + round % 6);
-        if let Some(steps) = steps_to_deadlock(rt.alloc(), &system).expect(&rt, "memory") {
-            let part = part_of(&rt, &system, &formula);
-            assert!(rt; way_of(&system, &part) == Some(steps), "{round}");
+        if is_shown_shortly(&rt, &system, &formula) {
             found = found.saturating_add(1);
         }
+        drop(system);
     }
-    assert!(rt; found >= 40, "{found}");
+    drop(formula);
+    holds_for(&rt, found >= 40, found);
 }
 
 // ---- drawings
@@ -252,47 +493,63 @@ const DRAWN: &str = "des (1,3,4)\n(0,\"c\",1)\n(1,\"a\\n\",0)\n(1,\"b|a\",3)\n";
 const DRAWING: &str =
     "digraph witness {\n  rankdir=LR;\n  node [shape=circle];\n  1 [shape=doublecircle];\n  0 -> 1 [label=\"c\"];\n  1 -> 0 [label=\"a\\\\n\"];\n  1 -> 3 [label=\"b|a\"];\n}\n";
 
+static STEPS: [usize; 3] = [1, 7, 8192];
+
+fn is_drawn(rt: &(impl Abort + AllocGlobal), system: &Lts, step: usize) {
+    let mut out = Narrow::new(rt.alloc(), step, AMPLE);
+    holds!(rt; write_drawing(system, system.all(), &mut out).is_ok());
+    holds!(rt; has_all(&out, DRAWING));
+    drop(out);
+}
+
 #[test]
 fn drawings_are_to_the_letter(rt: HostRuntime) {
-    let system = system_read(rt.alloc(), DRAWN).expect(&rt, "a system");
-    for step in [1, 7, 8192] {
-        let mut out = Narrow::new(rt.alloc(), step, AMPLE);
-        assert!(rt; write_drawing(&system, system.all(), &mut out).is_ok());
-        assert!(rt; out.taken.as_slice() == DRAWING.as_bytes());
+    let system = system(&rt, DRAWN);
+    for step in &STEPS {
+        is_drawn(&rt, &system, *step);
     }
+    drop(system);
 }
 
 // A writer without room for the whole is given a beginning, and a fault is told.
-fn is_cut(alloc: Global, system: &Lts, room: usize, at_end: AtEnd) -> bool {
-    let mut out = Narrow::new(alloc, 4, room);
-    out.at_end = at_end;
-    write_drawing(system, system.all(), &mut out).is_err()
-        && out.taken.len() == room
-        && DRAWING.as_bytes().starts_with(out.taken.as_slice())
+fn is_cut(rt: &(impl Abort + AllocGlobal), system: &Lts, room: usize, at_end: AtEnd) {
+    let mut out = narrow(rt, 4, room, at_end);
+    let is_told = write_drawing(system, system.all(), &mut out).is_err();
+    holds_for(rt, is_told && has_taken(&out, room, DRAWING), room);
+    drop(out);
 }
 
 #[test]
 fn a_failed_write_leaves_a_beginning_of_the_drawing(rt: HostRuntime) {
-    let system = system_read(rt.alloc(), DRAWN).expect(&rt, "a system");
+    let system = system(&rt, DRAWN);
     for room in 0..DRAWING.len() {
-        assert!(rt; is_cut(rt.alloc(), &system, room, AtEnd::Fails), "{room}");
-        assert!(rt;
-            is_cut(rt.alloc(), &system, room, AtEnd::TakesNothing),
-            "{room}"
-        );
+        is_cut(&rt, &system, room, AtEnd::Fails);
+        is_cut(&rt, &system, room, AtEnd::TakesNothing);
     }
+    drop(system);
 }
 
 // ---- labels by node
 
+fn sets_of(rt: &(impl Abort + AllocGlobal), system: &Lts, form: &Normal) -> Vec<Vec<bool>> {
+    label_sets(rt.alloc(), system, form).expect(rt, "memory")
+}
+
 // The diamond's `a` and the box's `!a`, by the ring's labels `a` and `b`; the other nodes have no labels.
+fn are_sets(rt: &impl Abort, sets: &[Vec<bool>]) {
+    holds!(rt; sets.len() == 3);
+    holds!(rt; sets[0].as_slice() == [true, false].as_slice());
+    holds!(rt; sets[1].as_slice() == [false, true].as_slice());
+    holds!(rt; sets[2].is_empty());
+}
+
 #[test]
 fn nodes_know_the_labels_that_pass(rt: HostRuntime) {
-    let system = system_read(rt.alloc(), RING).expect(&rt, "a system");
-    let form = form_of(rt.alloc(), "<a>[!a]false").expect(&rt, "a normal form");
-    let sets = label_sets(rt.alloc(), &system, &form).expect(&rt, "memory");
-    assert!(rt; sets.len() == 3);
-    assert!(rt; sets[0].as_slice() == [true, false].as_slice());
-    assert!(rt; sets[1].as_slice() == [false, true].as_slice());
-    assert!(rt; sets[2].is_empty());
+    let system = system(&rt, RING);
+    let form = form(&rt, "<a>[!a]false");
+    let sets = sets_of(&rt, &system, &form);
+    drop(form);
+    drop(system);
+    are_sets(&rt, sets.as_slice());
+    drop(sets);
 }

@@ -1,11 +1,10 @@
 // Canonical texts of systems, by readers and writers that fail or are slow. Transitions were put in order by hand: by
 // source, by the label's bytes and by target.
 
-use crate::common::same;
+use crate::common::{has_all, has_taken, holds, holds_for, narrow, same, system};
 use lts::{Lts, WriteFault, put, put_number, write_aut};
-use samples::texts::{RING, system_read};
+use samples::texts::RING;
 use samples::writers::{AMPLE, AtEnd, Narrow};
-use std::alloc::Global;
 use std::process::Abort;
 
 // Texts of systems, and their canonical texts.
@@ -35,13 +34,19 @@ static TEXTS: [(&str, &str); 7] = [
 ];
 
 // A writer that never fails is given the whole text, and no fault is told.
+fn is_written(rt: &(impl Abort + AllocGlobal), lts: &Lts, step: usize, wanted: &str) {
+    let mut out = Narrow::new(rt.alloc(), step, AMPLE);
+    holds!(rt; write_aut(lts, &mut out).is_ok());
+    holds!(rt; has_all(&out, wanted), wanted);
+    drop(out);
+}
+
 fn writes(rt: &(impl Abort + AllocGlobal), text: &str, wanted: &str) {
-    let lts = system_read(rt.alloc(), text).expect(rt, "a system");
-    for step in [1, 3, 8192] {
-        let mut out = Narrow::new(rt.alloc(), step, AMPLE);
-        assert!(rt; write_aut(&lts, &mut out).is_ok());
-        assert!(rt; out.taken.as_slice() == wanted.as_bytes(), "{wanted}");
-    }
+    let lts = system(rt, text);
+    is_written(rt, &lts, 1, wanted);
+    is_written(rt, &lts, 3, wanted);
+    is_written(rt, &lts, 8192, wanted);
+    drop(lts);
 }
 
 // What is written is read again as the same system.
@@ -76,64 +81,64 @@ fn the_greatest_states_keep_their_places(rt: HostRuntime) {
 }
 
 // A writer without room for the whole ring is given a beginning, and a fault is told.
-fn is_cut(alloc: Global, lts: &Lts, step: usize, room: usize, at_end: AtEnd) -> bool {
-    let mut out = Narrow::new(alloc, step, room);
-    out.at_end = at_end;
-    write_aut(lts, &mut out).is_err()
-        && out.taken.len() == room
-        && RING.as_bytes().starts_with(out.taken.as_slice())
+fn is_cut(rt: &(impl Abort + AllocGlobal), lts: &Lts, step: usize, room: usize, at_end: AtEnd) {
+    let mut out = narrow(rt, step, room, at_end);
+    let is_told = write_aut(lts, &mut out).is_err();
+    holds_for(rt, is_told && has_taken(&out, room, RING), room);
+    drop(out);
+}
+
+// However the writer goes on.
+fn is_cut_anyhow(rt: &(impl Abort + AllocGlobal), lts: &Lts, step: usize, room: usize) {
+    is_cut(rt, lts, step, room, AtEnd::Fails);
+    is_cut(rt, lts, step, room, AtEnd::TakesNothing);
 }
 
 #[test]
 fn a_failed_write_leaves_a_beginning(rt: HostRuntime) {
-    let lts = system_read(rt.alloc(), RING).expect(&rt, "a system");
+    let lts = system(&rt, RING);
     for room in 0..RING.len() {
-        for step in [4, 8192] {
-            assert!(rt;
-                is_cut(rt.alloc(), &lts, step, room, AtEnd::Fails),
-                "{room}"
-            );
-            assert!(rt;
-                is_cut(rt.alloc(), &lts, step, room, AtEnd::TakesNothing),
-                "{room}"
-            );
-        }
+        is_cut_anyhow(&rt, &lts, 4, room);
+        is_cut_anyhow(&rt, &lts, 8192, room);
     }
+    drop(lts);
 }
 
 #[test]
 fn a_failed_write_has_a_code(rt: HostRuntime) {
-    same(
-        &rt,
-        "code",
-        WriteFault
-            .to_string(rt.alloc())
-            .expect(&rt, "memory")
-            .as_str(),
-        "W1",
-    );
+    let code = WriteFault.to_string(rt.alloc()).expect(&rt, "memory");
+    same(&rt, "code", code.as_str(), "W1");
+    drop(code);
+}
+
+fn is_written_again(rt: &impl Abort, lts: &Lts, out: &mut Narrow) {
+    out.interrupts = true;
+    holds!(rt; write_aut(lts, out).is_ok());
+    holds!(rt; has_all(&*out, RING));
 }
 
 #[test]
 fn an_interrupted_write_is_tried_again(rt: HostRuntime) {
-    let lts = system_read(rt.alloc(), RING).expect(&rt, "a system");
-    let mut out = Narrow::new(rt.alloc(), 4, AMPLE);
-    out.interrupts = true;
-    assert!(rt; write_aut(&lts, &mut out).is_ok());
-    assert!(rt; out.taken.as_slice() == RING.as_bytes());
+    let lts = system(&rt, RING);
+    is_written_again(&rt, &lts, &mut Narrow::new(rt.alloc(), 4, AMPLE));
+    drop(lts);
 }
 
 // Nothing is a piece that any writer takes.
 #[test]
 fn nothing_is_written_without_a_fault(rt: HostRuntime) {
     let mut out = Narrow::new(rt.alloc(), 1, 0);
-    assert!(rt; put(&mut out, b"").is_ok());
+    holds!(&rt; put(&mut out, b"").is_ok());
+    drop(out);
+}
+
+fn numbers_follow(rt: &impl Abort, out: &mut Narrow) {
+    holds!(rt; put_number(out, b"states ", 1_000_000_u32).is_ok());
+    holds!(rt; put_number(out, b"", 0_usize).is_ok());
+    holds!(rt; out.taken.as_slice() == b"states 10000000".as_slice());
 }
 
 #[test]
 fn a_number_follows_its_bytes(rt: HostRuntime) {
-    let mut out = Narrow::new(rt.alloc(), 3, AMPLE);
-    assert!(rt; put_number(&mut out, b"states ", 1_000_000_u32).is_ok());
-    assert!(rt; put_number(&mut out, b"", 0_usize).is_ok());
-    assert!(rt; out.taken.as_slice() == b"states 10000000".as_slice());
+    numbers_follow(&rt, &mut Narrow::new(rt.alloc(), 3, AMPLE));
 }

@@ -1,6 +1,6 @@
 // Reads and writes that fail, are cut short or are interrupted, as the engines tell them.
 
-use crate::common::same;
+use crate::common::{holds, same};
 use engines::engine::check_plain;
 use engines::error::MuError;
 use lts::put;
@@ -41,7 +41,7 @@ fn refusal<R: Read + Drop, S: Read + Drop>(
 ) -> String {
     let mut out = Vec::new(rt.alloc());
     let answer = check_plain(rt.alloc(), aut, formula, &mut out);
-    assert!(rt; out.is_empty());
+    holds!(rt; out.is_empty());
     told(rt.alloc(), &answer).expect(rt, "memory")
 }
 
@@ -78,7 +78,7 @@ fn halting(text: &str) -> Halting<'_> {
 fn interrupted_reads_and_writes_are_tried_again(rt: HostRuntime) {
     let mut out = Narrow::new(rt.alloc(), 5, AMPLE);
     out.interrupts = true;
-    assert!(rt; is_whole(rt.alloc(), halting(RING), halting(FORMULA), &mut out));
+    holds!(&rt; is_whole(rt.alloc(), halting(RING), halting(FORMULA), &mut out));
 }
 
 #[test]
@@ -86,7 +86,7 @@ fn texts_may_come_a_few_bytes_at_a_time(rt: HostRuntime) {
     let mut out = Narrow::new(rt.alloc(), 1, AMPLE);
     let system = slow(RING, false);
     let formula = slow(FORMULA, false);
-    assert!(rt; is_whole(rt.alloc(), system, formula, &mut out));
+    holds!(&rt; is_whole(rt.alloc(), system, formula, &mut out));
 }
 
 #[test]
@@ -101,7 +101,7 @@ fn a_writer_that_takes_nothing_is_a_failed_write(rt: HostRuntime) {
             told(rt.alloc(), &answer).expect(&rt, "memory").as_str(),
             "W1",
         );
-        assert!(rt; out.taken.len() == room);
+        holds!(&rt; out.taken.len() == room);
     }
 }
 
@@ -117,6 +117,6 @@ fn a_large_piece_is_written_whole(rt: HostRuntime) {
     for step in [1_000, 65_537, PIECE] {
         let mut out = Narrow::new(rt.alloc(), step, AMPLE);
         assert!(rt; put(&mut out, &piece).is_ok(), "{step} at a time");
-        assert!(rt; out.taken.as_slice() == piece.as_slice());
+        holds!(&rt; out.taken.as_slice() == piece.as_slice());
     }
 }

@@ -1,7 +1,7 @@
 // Checks by workers over boards: that neither shows in a report, when a board can't be had, and that both workers take turns.
 // The reports are those that were worked out by hand; the least system without a packed board is computed from the definition.
 
-use crate::common::same;
+use crate::common::{holds, same};
 use crate::reports::{outcome_text, report_of_the_ring};
 use engines::engine::{check, check_gated};
 use engines::error::MuError;
@@ -149,9 +149,9 @@ fn meets<R: Abort + AllocGlobal + Threads + Wait + Clone + Copy + Drop + Send + 
 
 #[test]
 fn two_workers_of_a_check_meet(rt: HostRuntime) {
-    assert!(rt; meets(&rt, BoardKind::Locked), "over shards");
-    assert!(rt; meets(&rt, BoardKind::Packed), "over words");
-    assert!(rt; meets(&rt, BoardKind::Auto), "over either");
+    holds!(&rt; meets(&rt, BoardKind::Locked), "over shards");
+    holds!(&rt; meets(&rt, BoardKind::Packed), "over words");
+    holds!(&rt; meets(&rt, BoardKind::Auto), "over either");
 }
 
 // 31 fixpoints in one another, each of a priority of its own. On n states there are n vertices of each odd priority from 3 to 31,
@@ -168,7 +168,7 @@ fn refused<R: Abort + AllocGlobal + Threads + Wait + Clone + Copy + Drop + Send 
 ) -> String {
     let formula = sixteen_counts(rt.alloc()).expect(rt, "memory");
     let (answer, report) = checked(rt, system, formula.as_str(), options);
-    assert!(rt; report.is_empty(), "nothing is written");
+    holds!(rt; report.is_empty(), "nothing is written");
     outcome_text(rt.alloc(), &answer).expect(rt, "memory")
 }
 
@@ -202,8 +202,8 @@ fn is_answered<R: Abort + AllocGlobal + Threads + Wait + Clone + Copy + Drop + S
 #[test]
 fn every_other_board_can_be_had(rt: HostRuntime) {
     for workers in [1, 2, 8] {
-        assert!(rt; is_answered(&rt, FEW_ENOUGH, BoardKind::Packed, workers));
-        assert!(rt; is_answered(&rt, TOO_MANY, BoardKind::Auto, workers));
-        assert!(rt; is_answered(&rt, TOO_MANY, BoardKind::Locked, workers));
+        holds!(&rt; is_answered(&rt, FEW_ENOUGH, BoardKind::Packed, workers));
+        holds!(&rt; is_answered(&rt, TOO_MANY, BoardKind::Auto, workers));
+        holds!(&rt; is_answered(&rt, TOO_MANY, BoardKind::Locked, workers));
     }
 }

@@ -1,5 +1,6 @@
 // The forms of a report, by sets of states and by a game, with other texts beside it and without. The system and its states were written by hand.
 
+use crate::common::holds;
 use crate::unwritten::unwritten;
 use engines::engine::check_asked;
 use engines::request::{BoardKind, Check, Options, ReportForm, Wanted};
@@ -114,7 +115,7 @@ fn wanted(report: ReportForm, evidence: bool) -> Wanted {
 fn reports_have_their_forms_by_sets(rt: HostRuntime) {
     for (form, text) in &FORMS {
         let alone = wanted(*form, false);
-        assert!(rt; reports(&rt, rt.alloc(), true, alone, text), "{text}");
+        holds!(&rt; reports(&rt, rt.alloc(), true, alone, text), text);
     }
 }
 
@@ -122,7 +123,7 @@ fn reports_have_their_forms_by_sets(rt: HostRuntime) {
 fn reports_have_their_forms_by_a_game(rt: HostRuntime) {
     for (form, text) in &FORMS {
         let alone = wanted(*form, false);
-        assert!(rt; reports(&rt, rt.alloc(), false, alone, text), "{text}");
+        holds!(&rt; reports(&rt, rt.alloc(), false, alone, text), text);
         let beside = wanted(*form, true);
         assert!(rt;
             reports(&rt, rt.alloc(), false, beside, text),

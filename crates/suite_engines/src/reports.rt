@@ -1,6 +1,6 @@
 // Reports and refusals of each engine, on small systems whose answers were worked out by hand (Kozen 1983; the mCRL2 manual on regular formulas).
 
-use crate::common::same;
+use crate::common::{holds, same};
 use engines::engine::{check, check_one, check_plain};
 use engines::error::MuError;
 use engines::request::{BoardKind, Options};
@@ -425,17 +425,17 @@ fn is_of_a_million(report: &[u8]) -> bool {
 
 #[test]
 fn a_million_states_by_sets(rt: HostRuntime) {
-    assert!(rt; reports_a_million(&rt, Engine::Plain));
+    holds!(&rt; reports_a_million(&rt, Engine::Plain));
 }
 
 #[test]
 fn a_million_states_by_a_game_on_one_thread(rt: HostRuntime) {
-    assert!(rt; reports_a_million(&rt, Engine::One));
+    holds!(&rt; reports_a_million(&rt, Engine::One));
 }
 
 #[test]
 fn a_million_states_by_a_game(rt: HostRuntime) {
-    assert!(rt; reports_a_million(&rt, Engine::Game));
+    holds!(&rt; reports_a_million(&rt, Engine::Game));
 }
 
 /// The report on a ring of 2,500 states, at each of which the formula holds.
@@ -467,7 +467,7 @@ fn is_cut<R: Abort + AllocGlobal + Threads + Wait + Clone + Copy + Drop + Send +
     let mut out = Narrow::new(rt.alloc(), want.len(), left);
     let answer = run(rt, RING, "<a>true", engine, &mut out);
     assert!(rt; status(&answer) == 3, "{left} by {engine:?}");
-    assert!(rt; out.taken.len() == left && want.as_bytes().starts_with(out.taken.as_slice()));
+    holds!(rt; out.taken.len() == left && want.as_bytes().starts_with(out.taken.as_slice()));
     let text = outcome_text(rt.alloc(), &answer).expect(rt, "memory");
     same(rt, "refusal", text.as_str(), "W1");
 }

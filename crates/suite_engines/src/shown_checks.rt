@@ -1,5 +1,6 @@
 // What a check writes where a witness is wanted. The parts are worked out by hand: the winner's moves and all of the opponent's.
 
+use crate::common::holds;
 use engines::engine::check_asked;
 use engines::error::MuError;
 use engines::request::{BoardKind, Check, Options, ReportForm, Wanted, WitnessForm};
@@ -141,11 +142,11 @@ fn a_witness_is_what_the_answer_rests_on(rt: HostRuntime) {
                 report: ReportForm::Whole,
             };
             let answer = run(&rt, rt.alloc(), row, wanted, &mut writers);
-            assert!(rt; answer.ok() == Some(row.holds), "{}", row.formula);
-            assert!(rt; has(&writers.witness, row.part), "{}", row.formula);
-            assert!(rt; writers.game.taken.is_empty());
-            assert!(rt; writers.even.taken.is_empty() != evidence);
-            assert!(rt; !writers.report.taken.is_empty());
+            holds!(&rt; answer.ok() == Some(row.holds), row.formula);
+            holds!(&rt; has(&writers.witness, row.part), row.formula);
+            holds!(&rt; writers.game.taken.is_empty());
+            holds!(&rt; writers.even.taken.is_empty() != evidence);
+            holds!(&rt; !writers.report.taken.is_empty());
         }
     }
 }
@@ -161,11 +162,11 @@ fn a_drawing_has_the_same_edges(rt: HostRuntime) {
             ..NONE
         };
         let answer = run(&rt, rt.alloc(), row, wanted, &mut writers);
-        assert!(rt; answer.ok() == Some(row.holds));
+        holds!(&rt; answer.ok() == Some(row.holds));
         let text = writers.witness.taken.as_slice();
         let rest = text.strip_prefix(head.as_slice());
         let rest = rest.and_then(|rest| rest.strip_suffix(b"}\n"));
-        assert!(rt; rest == Some(row.edges.as_bytes()), "{}", row.formula);
+        holds!(&rt; rest == Some(row.edges.as_bytes()), row.formula);
     }
 }
 
@@ -174,10 +175,10 @@ fn what_is_not_wanted_is_not_written(rt: HostRuntime) {
     for row in &ROWS {
         let mut writers = ample_writers(rt.alloc());
         let answer = run(&rt, rt.alloc(), row, NONE, &mut writers);
-        assert!(rt; answer.ok() == Some(row.holds));
-        assert!(rt; writers.game.taken.is_empty() && writers.witness.taken.is_empty());
-        assert!(rt; writers.even.taken.is_empty() && writers.odd.taken.is_empty());
-        assert!(rt; !writers.report.taken.is_empty());
+        holds!(&rt; answer.ok() == Some(row.holds));
+        holds!(&rt; writers.game.taken.is_empty() && writers.witness.taken.is_empty());
+        holds!(&rt; writers.even.taken.is_empty() && writers.odd.taken.is_empty());
+        holds!(&rt; !writers.report.taken.is_empty());
     }
 }
 
@@ -188,16 +189,14 @@ fn a_failed_witness_ends_the_check(rt: HostRuntime) {
         let mut writers = ample_writers(rt.alloc());
         writers.witness = Narrow::new(rt.alloc(), 9, room);
         let answer = run(&rt, rt.alloc(), row, ALL, &mut writers);
-        assert!(rt; matches!(answer, Err(MuError::Write(_))));
-        assert!(rt; has(&writers.game, STEP));
-        assert!(rt; has(&writers.even, EVEN_OF_STEP) && has(&writers.odd, ODD_OF_STEP));
-        assert!(rt; writers.witness.taken.len() == room);
-        assert!(rt;
-            row.part
+        holds!(&rt; matches!(answer, Err(MuError::Write(_))));
+        holds!(&rt; has(&writers.game, STEP));
+        holds!(&rt; has(&writers.even, EVEN_OF_STEP) && has(&writers.odd, ODD_OF_STEP));
+        holds!(&rt; writers.witness.taken.len() == room);
+        holds!(&rt; row.part
                 .as_bytes()
-                .starts_with(writers.witness.taken.as_slice())
-        );
-        assert!(rt; writers.report.taken.is_empty());
+                .starts_with(writers.witness.taken.as_slice()));
+        holds!(&rt; writers.report.taken.is_empty());
     }
 }
 
@@ -222,9 +221,9 @@ fn sets_of_states_give_the_report_alone(rt: HostRuntime) {
             &mut writers,
             &Silent,
         );
-        assert!(rt; answer.ok() == Some(row.holds));
-        assert!(rt; writers.game.taken.is_empty() && writers.witness.taken.is_empty());
-        assert!(rt; writers.even.taken.is_empty() && writers.odd.taken.is_empty());
-        assert!(rt; !writers.report.taken.is_empty());
+        holds!(&rt; answer.ok() == Some(row.holds));
+        holds!(&rt; writers.game.taken.is_empty() && writers.witness.taken.is_empty());
+        holds!(&rt; writers.even.taken.is_empty() && writers.odd.taken.is_empty());
+        holds!(&rt; !writers.report.taken.is_empty());
     }
 }

@@ -1,5 +1,6 @@
 // What a watcher is told of a check: each stage that its way has, and both texts once they are read.
 
+use crate::common::holds;
 use crate::unwritten::unwritten;
 use calculus::closed::Closed;
 use engines::engine::check_asked;
@@ -112,18 +113,18 @@ fn checked<R: AllocGlobal + Threads + Wait + Clone + Copy + Drop + Send + Sync>(
 #[test]
 fn a_check_by_a_game_tells_of_its_stages(rt: HostRuntime) {
     let told = Told::new();
-    assert!(rt; checked(&rt, false, NOTHING, &told).ok() == Some(true));
+    holds!(&rt; checked(&rt, false, NOTHING, &told).ok() == Some(true));
     // A ranking that is guessed is good, so that no game is built.
-    assert!(rt; told.digits.load(Ordering::SeqCst) == 1_001_011);
-    assert!(rt; told.states.load(Ordering::SeqCst) == 2);
+    holds!(&rt; told.digits.load(Ordering::SeqCst) == 1_001_011);
+    holds!(&rt; told.states.load(Ordering::SeqCst) == 2);
 }
 
 #[test]
 fn a_check_by_sets_tells_of_its_stages(rt: HostRuntime) {
     let told = Told::new();
-    assert!(rt; checked(&rt, true, NOTHING, &told).ok() == Some(true));
-    assert!(rt; told.digits.load(Ordering::SeqCst) == 1_100_011);
-    assert!(rt; told.states.load(Ordering::SeqCst) == 2);
+    holds!(&rt; checked(&rt, true, NOTHING, &told).ok() == Some(true));
+    holds!(&rt; told.digits.load(Ordering::SeqCst) == 1_100_011);
+    holds!(&rt; told.states.load(Ordering::SeqCst) == 2);
 }
 
 #[test]
@@ -133,9 +134,9 @@ fn a_check_with_evidence_tells_that_it_is_made(rt: HostRuntime) {
         evidence: true,
         ..NOTHING
     };
-    assert!(rt; checked(&rt, false, wanted, &told).ok() == Some(true));
-    assert!(rt; told.digits.load(Ordering::SeqCst) == 11_001_111);
+    holds!(&rt; checked(&rt, false, wanted, &told).ok() == Some(true));
+    holds!(&rt; told.digits.load(Ordering::SeqCst) == 11_001_111);
     // Two states with two nodes each are built.
     let whole = Reading { done: 4, whole: 4 };
-    assert!(rt; told.gauge.reading() == Some(whole));
+    holds!(&rt; told.gauge.reading() == Some(whole));
 }

@@ -1,5 +1,6 @@
 // Checks that are strict about the words of their formulas, and the same without. Which words are on no transition was read off the system.
 
+use crate::common::holds;
 use crate::unwritten::{Written, unwritten};
 use engines::engine::check_asked;
 use engines::error::MuError;
@@ -99,12 +100,9 @@ fn a_strict_check_refuses_the_first_word_on_no_transition(rt: HostRuntime) {
     for (formula, lax, strict) in &ROWS {
         for plain in [false, true] {
             let found = outcome(&rt, rt.alloc(), &check(plain, false), formula);
-            assert!(rt; found.expect(&rt, "memory").as_str() == *lax, "{formula}");
+            holds!(&rt; found.expect(&rt, "memory").as_str() == *lax, formula);
             let found = outcome(&rt, rt.alloc(), &check(plain, true), formula);
-            assert!(rt;
-                found.expect(&rt, "memory").as_str() == *strict,
-                "{formula}"
-            );
+            holds!(&rt; found.expect(&rt, "memory").as_str() == *strict, formula);
         }
     }
 }
@@ -113,7 +111,7 @@ fn a_strict_check_refuses_the_first_word_on_no_transition(rt: HostRuntime) {
 fn a_word_is_refused_before_the_normal_form(rt: HostRuntime) {
     let formula = repeated_text(rt.alloc(), "<", "(a + d) . ", 13, "a>true").expect(&rt, "memory");
     let found = outcome(&rt, rt.alloc(), &check(false, false), formula.as_str());
-    assert!(rt; found.expect(&rt, "memory").as_str() == "N1");
+    holds!(&rt; found.expect(&rt, "memory").as_str() == "N1");
     let found = outcome(&rt, rt.alloc(), &check(false, true), formula.as_str());
-    assert!(rt; found.expect(&rt, "memory").as_str() == "L1 at offset 6");
+    holds!(&rt; found.expect(&rt, "memory").as_str() == "L1 at offset 6");
 }

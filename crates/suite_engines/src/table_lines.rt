@@ -1,5 +1,6 @@
 // Lines of tables, on a system of two states whose answers were worked out by hand.
 
+use crate::common::holds;
 use calculus::closed::Closed;
 use engines::request::{BoardKind, Options, Table};
 use engines::table::{table_line, table_line_seen};
@@ -101,8 +102,8 @@ fn tells<R: Abort + AllocGlobal + Threads + Wait + Clone + Copy + Drop + Send + 
         formula,
         &mut out,
     );
-    assert!(rt; answer == Some(status), "{formula}");
-    assert!(rt; out.as_slice() == line.as_bytes(), "{formula}");
+    holds!(rt; answer == Some(status), formula);
+    holds!(rt; out.as_slice() == line.as_bytes(), formula);
 }
 
 #[test]
@@ -127,7 +128,7 @@ fn a_strict_table_refuses_a_word_on_no_transition(rt: HostRuntime) {
                 formula,
                 &mut out,
             );
-            assert!(rt; out.as_slice() == lax.as_bytes(), "{formula}");
+            holds!(&rt; out.as_slice() == lax.as_bytes(), formula);
             let mut out = Vec::new(rt.alloc());
             line_of(
                 &rt,
@@ -136,7 +137,7 @@ fn a_strict_table_refuses_a_word_on_no_transition(rt: HostRuntime) {
                 formula,
                 &mut out,
             );
-            assert!(rt; out.as_slice() == strict.as_bytes(), "{formula}");
+            holds!(&rt; out.as_slice() == strict.as_bytes(), formula);
         }
     }
 }
@@ -157,8 +158,8 @@ fn failed_writes_are_told(rt: HostRuntime) {
         formula,
         &mut out,
     );
-    assert!(rt; answer.is_err());
-    assert!(rt; out.taken.as_slice() == b"yes 1 of 2".as_slice());
+    holds!(&rt; answer.is_err());
+    holds!(&rt; out.taken.as_slice() == b"yes 1 of 2".as_slice());
 }
 
 /// How many states the systems had together of which a watcher was told that they and a formula are read.
@@ -199,15 +200,15 @@ fn states_told<R: Abort + AllocGlobal + Threads + Wait + Clone + Copy + Drop + S
     let answer = table_line_seen(
         rt, alloc, &system, &request, "f.mcf", bytes, &mut out, &told,
     );
-    assert!(rt; answer.is_ok());
-    assert!(rt; out.as_slice() == line.as_bytes(), "{formula}");
+    holds!(rt; answer.is_ok());
+    holds!(rt; out.as_slice() == line.as_bytes(), formula);
     told.states.load(Ordering::SeqCst)
 }
 
 /// A watcher is told of a formula that is read, also where a word of it is refused then, and of none whose text is refused.
 #[test]
 fn a_watcher_is_told_of_formulas_that_are_read(rt: HostRuntime) {
-    assert!(rt; states_told(&rt, "<a>true", "yes 1 of 2 f.mcf\n") == 2);
-    assert!(rt; states_told(&rt, "<c>true", "L1 at offset 1 f.mcf\n") == 2);
-    assert!(rt; states_told(&rt, "<a>true && X", "F5 at offset 11 f.mcf\n") == 0);
+    holds!(&rt; states_told(&rt, "<a>true", "yes 1 of 2 f.mcf\n") == 2);
+    holds!(&rt; states_told(&rt, "<c>true", "L1 at offset 1 f.mcf\n") == 2);
+    holds!(&rt; states_told(&rt, "<a>true && X", "F5 at offset 11 f.mcf\n") == 0);
 }

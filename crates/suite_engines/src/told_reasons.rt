@@ -1,7 +1,7 @@
 // What is told of why an answer is so: whole texts, worked out by hand from the witnesses, which have the winner's moves and all of the opponent's. A step is
 // taken by the modalities of those moves.
 
-use crate::common::same;
+use crate::common::{holds, same};
 use engines::error::MuError;
 use engines::reasons::tell_why;
 use engines::request::{BoardKind, Options, Why};
@@ -202,8 +202,8 @@ fn answers_are_told_as_worked_out(rt: HostRuntime) {
     for (system, formula, holds, text) in &ROWS {
         let mut out = Narrow::new(rt.alloc(), 7, AMPLE);
         let answer = told(&rt, system, formula, &mut out);
-        assert!(rt; answer.ok() == Some(*holds), "{formula}");
-        assert!(rt; out.taken.as_slice() == text.as_bytes(), "{formula}");
+        holds!(&rt; answer.ok() == Some(*holds), formula);
+        holds!(&rt; out.taken.as_slice() == text.as_bytes(), formula);
     }
 }
 
@@ -233,8 +233,8 @@ fn two_hundred_steps_are_told(rt: HostRuntime) {
         }
         let mut out = Narrow::new(rt.alloc(), 50, AMPLE);
         let answer = told(&rt, &system, "nu X. <true>X", &mut out);
-        assert!(rt; answer.ok() == Some(true));
-        assert!(rt; out.taken.as_slice() == text.as_bytes());
+        holds!(&rt; answer.ok() == Some(true));
+        holds!(&rt; out.taken.as_slice() == text.as_bytes());
     }
 }
 
@@ -242,13 +242,13 @@ fn two_hundred_steps_are_told(rt: HostRuntime) {
 #[test]
 fn refusals_and_failed_writes_are_told(rt: HostRuntime) {
     let mut out = Narrow::new(rt.alloc(), 7, AMPLE);
-    assert!(rt; told(&rt, RING, "<a>true && X", &mut out).is_err());
-    assert!(rt; out.taken.is_empty());
+    holds!(&rt; told(&rt, RING, "<a>true && X", &mut out).is_err());
+    holds!(&rt; out.taken.is_empty());
     let mut out = Narrow::new(rt.alloc(), 7, 40);
     out.at_end = AtEnd::TakesNothing;
     let answer = told(&rt, RING, "<a><a>true", &mut out);
-    assert!(rt; matches!(answer, Err(MuError::Write(_))));
-    assert!(rt; out.taken.as_slice() == b"formula <a><a>true\ninitial no\n0 -a-> 1 b".as_slice());
+    holds!(&rt; matches!(answer, Err(MuError::Write(_))));
+    holds!(&rt; out.taken.as_slice() == b"formula <a><a>true\ninitial no\n0 -a-> 1 b".as_slice());
 }
 
 /// A formula on the ring, and what comes of it where it is asked about strictly. Which words are on no transition was read off the system.
@@ -266,6 +266,6 @@ fn strictly_a_word_on_no_transition_is_refused(rt: HostRuntime) {
         let answer = told_by(&rt, &why(true), RING, formula, &mut out);
         let found = answer_text(rt.alloc(), &answer).expect(&rt, "memory");
         same(&rt, formula, found.as_str(), wanted);
-        assert!(rt; out.taken.is_empty() == answer.is_err(), "{formula}");
+        holds!(&rt; out.taken.is_empty() == answer.is_err(), formula);
     }
 }

@@ -1,5 +1,6 @@
 // What a check writes: the game, both players' evidence and the report, of formulas whose games were solved by hand (the worked examples of docs/FORMATS.md).
 
+use crate::common::holds;
 use engines::engine::{check, check_one};
 use engines::error::MuError;
 use engines::request::{BoardKind, Options};
@@ -153,11 +154,11 @@ fn every_text_is_written(rt: HostRuntime) {
         for is_one in [true, false] {
             let mut writers = Writers::new(rt.alloc());
             let answer = run(&rt, rt.alloc(), texts, is_one, &mut writers);
-            assert!(rt; answer.ok() == Some(texts.initial));
-            assert!(rt; has_all(&writers.game, texts.game));
-            assert!(rt; has_all(&writers.even, texts.even));
-            assert!(rt; has_all(&writers.odd, texts.odd));
-            assert!(rt; has_all(&writers.report, texts.report));
+            holds!(&rt; answer.ok() == Some(texts.initial));
+            holds!(&rt; has_all(&writers.game, texts.game));
+            holds!(&rt; has_all(&writers.even, texts.even));
+            holds!(&rt; has_all(&writers.odd, texts.odd));
+            holds!(&rt; has_all(&writers.report, texts.report));
         }
     }
 }
@@ -173,10 +174,10 @@ fn a_failed_game_ends_the_check(rt: HostRuntime) {
             let mut writers = Writers::new(rt.alloc());
             writers.game = Narrow::new(rt.alloc(), 9, room);
             let answer = run(&rt, rt.alloc(), texts, false, &mut writers);
-            assert!(rt; is_write_fault(&answer));
-            assert!(rt; has(&writers.game, texts.game, room));
-            assert!(rt; writers.even.taken.is_empty() && writers.odd.taken.is_empty());
-            assert!(rt; writers.report.taken.is_empty());
+            holds!(&rt; is_write_fault(&answer));
+            holds!(&rt; has(&writers.game, texts.game, room));
+            holds!(&rt; writers.even.taken.is_empty() && writers.odd.taken.is_empty());
+            holds!(&rt; writers.report.taken.is_empty());
         }
     }
 }
@@ -188,11 +189,11 @@ fn failed_evidence_ends_the_check(rt: HostRuntime) {
             let mut writers = Writers::new(rt.alloc());
             writers.odd = Narrow::new(rt.alloc(), 9, room);
             let answer = run(&rt, rt.alloc(), texts, false, &mut writers);
-            assert!(rt; is_write_fault(&answer));
-            assert!(rt; has_all(&writers.game, texts.game));
-            assert!(rt; has_all(&writers.even, texts.even));
-            assert!(rt; has(&writers.odd, texts.odd, room));
-            assert!(rt; writers.report.taken.is_empty());
+            holds!(&rt; is_write_fault(&answer));
+            holds!(&rt; has_all(&writers.game, texts.game));
+            holds!(&rt; has_all(&writers.even, texts.even));
+            holds!(&rt; has(&writers.odd, texts.odd, room));
+            holds!(&rt; writers.report.taken.is_empty());
         }
     }
 }
@@ -204,10 +205,10 @@ fn a_failed_report_leaves_the_other_texts_whole(rt: HostRuntime) {
             let mut writers = Writers::new(rt.alloc());
             writers.report = Narrow::new(rt.alloc(), 9, room);
             let answer = run(&rt, rt.alloc(), texts, true, &mut writers);
-            assert!(rt; is_write_fault(&answer));
-            assert!(rt; has_all(&writers.game, texts.game));
-            assert!(rt; has_all(&writers.odd, texts.odd));
-            assert!(rt; has(&writers.report, texts.report, room));
+            holds!(&rt; is_write_fault(&answer));
+            holds!(&rt; has_all(&writers.game, texts.game));
+            holds!(&rt; has_all(&writers.odd, texts.odd));
+            holds!(&rt; has(&writers.report, texts.report, room));
         }
     }
 }
@@ -223,8 +224,8 @@ fn the_game_may_be_written_alone(rt: HostRuntime) {
         let options = options(texts.priorities);
         let out = &mut writers.report;
         let answer = check(&rt, rt.alloc(), system, formula, &options, out, game, none);
-        assert!(rt; answer.is_ok());
-        assert!(rt; has_all(&writers.game, texts.game));
-        assert!(rt; has_all(&writers.report, texts.report));
+        holds!(&rt; answer.is_ok());
+        holds!(&rt; has_all(&writers.game, texts.game));
+        holds!(&rt; has_all(&writers.report, texts.report));
     }
 }

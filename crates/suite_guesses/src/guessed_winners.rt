@@ -3,10 +3,11 @@
 
 ghost use Rattle.std.specs.Prelude.{◌<◌, ◌≤◌, length};
 
+use crate::common::{holds, holds_for, holds_for_both, random_game};
 use game::graph::{Game, GameBuilder};
 use game::player::Player;
 use gauge::Gauge;
-use samples::dice::{Dice, roll_game};
+use samples::dice::Dice;
 use samples::games::push_row;
 use std::alloc::Global;
 use std::process::Abort;
@@ -33,35 +34,36 @@ struct Tested<'g> {
 }
 
 // What stands in place of the rank of a vertex that no walk met.
-const UNMET: [u32; COUNTS] = [u32::MAX; COUNTS];
+static UNMET: [u32; COUNTS] = [u32::MAX; COUNTS];
 
-// The ranks of all vertices. `None` where a walk meets what the player doesn't win, or meets it twice.
-fn walked(
-    rt: &(impl Abort + AllocGlobal),
-    game: &Game,
-    guessed: &Guessed,
-) -> Option<Vec<[u32; COUNTS]>> {
-    let mut ranks = vec![in rt.alloc(); UNMET; game.vertices() as usize].expect(rt, "memory");
-    for player in [Player::Even, Player::Odd] {
-        if !walk(game, guessed, player, &mut ranks) {
-            return None;
-        }
+// No ranks yet.
+fn unmet(rt: &(impl Abort + AllocGlobal), vertices: u32) -> Vec<[u32; COUNTS]> {
+    vec![in rt.alloc(); UNMET; vertices as usize].expect(rt, "memory")
+}
+
+// Notes the rank of a vertex. The answer is whether it had none.
+fn note(ranks: &mut [[u32; COUNTS]], v: u32, rank: &[u32; COUNTS]) -> bool {
+    let place = v as usize;
+    if place >= ranks.len() || ranks[place] != UNMET {
+        return false;
     }
-    Some(ranks)
+    ranks[place] = *rank;
+    true
 }
 
 // Notes the ranks of what a player wins. The answer is whether each is met once, and is the player's.
-fn walk(game: &Game, guessed: &Guessed, player: Player, ranks: &mut Vec<[u32; COUNTS]>) -> bool {
+fn walk(game: &Game, guessed: &Guessed, player: Player, ranks: &mut [[u32; COUNTS]]) -> bool {
     let mut walk = guessed.walk(game, player);
     for _ in 0..=game.vertices() {
         let mut rank = [0_u32; COUNTS];
-        let Some(v) = walk.advance(&mut rank) else {
-            return true;
-        };
-        if ranks.get(v as usize) != Some(&UNMET) || guessed.winner(v) != player {
-            return false;
+        match walk.advance(&mut rank) {
+            Some(v) => {
+                if guessed.winner(v) != player || !note(ranks, v, &rank) {
+                    return false;
+                }
+            }
+            None => return true,
         }
-        ranks[v as usize] = rank;
     }
     false
 }
@@ -96,7 +98,12 @@ impl Tested<'_> {
     }
 
     fn rank(&self, v: u32) -> [u32; COUNTS] {
-        self.ranks.get(v as usize).copied().unwrap_or(UNMET)
+        let place = v as usize;
+        if place < self.ranks.len() {
+            self.ranks[place]
+        } else {
+            UNMET
+        }
     }
 
     // Whether the rank of a vertex descends to that of a successor, which the same player wins.
@@ -153,16 +160,71 @@ impl Tested<'_> {
     }
 }
 
+// The answer is `None` where a vertex isn't good.
+fn good_evens(tested: Tested<'_>) -> Option<u32> {
+    let mut count = 0_u32;
+    for v in 0..tested.game.vertices() {
+        if !tested.is_good_at(v) {
+            return None;
+        }
+        if tested.guessed.winner(v) == Player::Even {
+            count = count.saturating_add(1);
+        }
+    }
+    Some(count)
+}
+
+// How many vertices Even wins by a guess. `None` where one isn't good, where a walk meets what the player doesn't win, or meets it twice.
+fn evens_of(rt: &(impl Abort + AllocGlobal), game: &Game, guessed: &Guessed) -> Option<u32> {
+    let mut ranks = unmet(rt, game.vertices());
+    let is_walked = walk(game, guessed, Player::Even, ranks.as_mut_slice())
+        && walk(game, guessed, Player::Odd, ranks.as_mut_slice());
+    let tested = Tested {
+        game,
+        guessed,
+        ranks: ranks.as_slice(),
+        greatest: greatest(game),
+    };
+    let count = if is_walked { good_evens(tested) } else { None };
+    drop(ranks);
+    count
+}
+
+fn guessed(rt: &(impl Abort + AllocGlobal), game: &Game) -> Guessed {
+    let found = guess_winners(rt.alloc(), game, None).expect(rt, "memory");
+    found.expect(rt, "a guess")
+}
+
+fn guessed_soonest(rt: &(impl Abort + AllocGlobal), game: &Game) -> Guessed {
+    let found = guess_soonest(rt.alloc(), game, None).expect(rt, "memory");
+    found.expect(rt, "a guess")
+}
+
+// What so many threads guess, shown by a gauge if there is one.
+fn guessed_by(
+    rt: &(impl Abort + AllocGlobal + Threads + Sync),
+    game: &Game,
+    workers: usize,
+    gauge: Option<&Gauge>,
+) -> Guessed {
+    let found = guess_winners_by(rt, rt.alloc(), game, workers, gauge).expect(rt, "memory");
+    found.expect(rt, "a guess")
+}
+
+// How many vertices Even wins by the guess that takes the least time.
+fn evens_of_soonest(rt: &(impl Abort + AllocGlobal), game: &Game) -> Option<u32> {
+    let soonest = guessed_soonest(rt, game);
+    let count = evens_of(rt, game, &soonest);
+    drop(soonest);
+    count
+}
+
 // How many vertices Even wins by a guess, whose ranks are counted in either way. `None` where one isn't good.
 fn evens(rt: &(impl Abort + AllocGlobal), game: &Game) -> Option<u32> {
-    let guessed = guess_winners(rt.alloc(), game, None)
-        .expect(rt, "memory")
-        .expect(rt, "a guess");
-    let soonest = guess_soonest(rt.alloc(), game, None)
-        .expect(rt, "memory")
-        .expect(rt, "a guess");
+    let guessed = guessed(rt, game);
     let count = evens_of(rt, game, &guessed);
-    if evens_of(rt, game, &soonest) == count {
+    drop(guessed);
+    if evens_of_soonest(rt, game) == count {
         count
     } else {
         None
@@ -170,31 +232,15 @@ fn evens(rt: &(impl Abort + AllocGlobal), game: &Game) -> Option<u32> {
 }
 
 // The same by a guess of four threads.
-fn evens_by_threads<R: Abort + AllocGlobal + Threads + Sync>(rt: &R, game: &Game) -> Option<u32> {
-    let guessed = guess_winners_by(rt, rt.alloc(), game, 4, None)
-        .expect(rt, "memory")
-        .expect(rt, "a guess");
-    evens_of(rt, game, &guessed)
+fn evens_by_threads(rt: &(impl Abort + AllocGlobal + Threads + Sync), game: &Game) -> Option<u32> {
+    let guessed = guessed_by(rt, game, 4, None);
+    let count = evens_of(rt, game, &guessed);
+    drop(guessed);
+    count
 }
 
-fn evens_of(rt: &(impl Abort + AllocGlobal), game: &Game, guessed: &Guessed) -> Option<u32> {
-    let ranks = walked(rt, game, guessed)?;
-    let tested = Tested {
-        game,
-        guessed,
-        ranks: &ranks,
-        greatest: greatest(game),
-    };
-    let mut count = 0_u32;
-    for v in 0..game.vertices() {
-        if !tested.is_good_at(v) {
-            return None;
-        }
-        if guessed.winner(v) == Player::Even {
-            count = count.saturating_add(1);
-        }
-    }
-    Some(count)
+fn is_guessed(rt: &(impl Abort + AllocGlobal), game: &Game, number: u32) {
+    holds_for(rt, evens(rt, game).is_some(), number);
 }
 
 #[test]
@@ -203,11 +249,18 @@ fn games_at_random_are_guessed(rt: HostRuntime) {
     for number in 0..2_000 {
         let vertices = 1 + dice.roll(40);
         let priorities = 2 + dice.roll(11);
-        let game = roll_game(&rt, &mut dice, vertices, priorities)
-            .expect(&rt, "memory")
-            .expect(&rt, "a game");
-        assert!(rt; evens(&rt, &game).is_some(), "{number}");
+        let game = random_game(&rt, &mut dice, vertices, priorities);
+        is_guessed(&rt, &game, number);
+        drop(game);
     }
+}
+
+// These numbers, each of them once.
+fn ascending(rt: &impl Abort, alloc: Global, numbers: &[u32]) -> Vec<u32> {
+    let mut row = Vec::from_slice(alloc, numbers).expect(rt, "memory");
+    row.sort_unstable();
+    row.dedup();
+    row
 }
 
 // A game that is made row by row, with successors in any order and more than once.
@@ -226,9 +279,7 @@ impl Rows {
     }
 
     fn add(&mut self, rt: &impl Abort, owner: Player, priority: u8, successors: &[u32]) {
-        let mut row = Vec::from_slice(self.alloc, successors).expect(rt, "memory");
-        row.sort_unstable();
-        row.dedup();
+        let row = ascending(rt, self.alloc, successors);
         push_row(&mut self.builder, owner, priority, row.as_slice()).expect(rt, "memory");
     }
 
@@ -237,8 +288,30 @@ impl Rows {
     }
 }
 
-// A game of so many vertices, most of which have priority 0 and lead to one vertex alone: many are copies of others, some in rings, and some
-// vertices lead to themselves alone.
+// A vertex of so many: most have priority 0 and lead to one vertex alone, and some lead to themselves alone.
+fn add_copy(
+    rt: &impl Abort,
+    rows: &mut Rows,
+    dice: &mut Dice,
+    v: u32,
+    vertices: u32,
+    priorities: u32,
+)
+    requires some { 0 < vertices }
+    requires few { (0 < priorities) × (priorities ≤ 33) }
+{
+    let owner = owner_of(dice.roll(2));
+    let (first, second) = (dice.roll(vertices), dice.roll(vertices));
+    let priority = dice.roll(priorities) as u8;
+    match dice.roll(8) {
+        0 => rows.add(rt, owner, priority, &[v]),
+        1 | 2 => rows.add(rt, owner, priority, &[first, second]),
+        3 => rows.add(rt, owner, 0, &[first, second]),
+        _ => rows.add(rt, owner, 0, &[first]),
+    }
+}
+
+// A game of so many vertices, of which many are copies of others, some in rings.
 fn game_of_copies(
     rt: &(impl Abort + AllocGlobal),
     dice: &mut Dice,
@@ -250,15 +323,7 @@ fn game_of_copies(
 {
     let mut rows = Rows::new(rt.alloc());
     for v in 0..vertices {
-        let owner = owner_of(dice.roll(2));
-        let (first, second) = (dice.roll(vertices), dice.roll(vertices));
-        let priority = dice.roll(priorities) as u8;
-        match dice.roll(8) {
-            0 => rows.add(rt, owner, priority, &[v]),
-            1 | 2 => rows.add(rt, owner, priority, &[first, second]),
-            3 => rows.add(rt, owner, 0, &[first, second]),
-            _ => rows.add(rt, owner, 0, &[first]),
-        }
+        add_copy(rt, &mut rows, dice, v, vertices, priorities);
     }
     rows.finish(rt)
 }
@@ -270,7 +335,27 @@ fn copies_are_won_by_whoever_wins_others(rt: HostRuntime) {
         let vertices = 1 + dice.roll(24);
         let priorities = 1 + dice.roll(6);
         let game = game_of_copies(&rt, &mut dice, vertices, priorities);
-        assert!(rt; evens(&rt, &game).is_some(), "{number}");
+        is_guessed(&rt, &game, number);
+        drop(game);
+    }
+}
+
+// So many steps, of which each leads to the one before and back to the first vertex. The answer is the number of the last.
+fn add_steps(rt: &impl Abort, rows: &mut Rows, steps: u32) -> u32 {
+    let mut last = 1_u32;
+    for _ in 0..steps {
+        rows.add(rt, Player::Even, 0, &[last, 0]);
+        last = last.wrapping_add(1);
+    }
+    last
+}
+
+// So many vertices of Even with priority 0, each leading to the one before.
+fn add_copies(rt: &impl Abort, rows: &mut Rows, way: u32, before: u32) {
+    let mut last = before;
+    for _ in 0..way {
+        rows.add(rt, Player::Even, 0, &[last]);
+        last = last.wrapping_add(1);
     }
 }
 
@@ -279,24 +364,25 @@ fn steps_and_way(rt: &(impl Abort + AllocGlobal), steps: u32, way: u32) -> Game 
     let mut rows = Rows::new(rt.alloc());
     rows.add(rt, Player::Odd, 1, &[1]);
     rows.add(rt, Player::Odd, 1, &[0]);
-    let mut last = 1_u32;
-    for _ in 0..steps {
-        rows.add(rt, Player::Even, 0, &[last, 0]);
-        last = last.wrapping_add(1);
-    }
-    for _ in 0..way {
-        rows.add(rt, Player::Even, 0, &[last]);
-        last = last.wrapping_add(1);
-    }
+    let last = add_steps(rt, &mut rows, steps);
+    add_copies(rt, &mut rows, way, last);
     rows.finish(rt)
+}
+
+// Steps, and how long the way is.
+static STEPS: [(u32, u32); 4] = [(1, 1), (1_000, 1_000), (5_000, 5_000), (2, 100_000)];
+
+fn is_odds(rt: &(impl Abort + AllocGlobal), steps: u32, way: u32) {
+    let game = steps_and_way(rt, steps, way);
+    holds_for_both(rt, evens(rt, &game) == Some(0), steps, way);
+    drop(game);
 }
 
 // A step counts for more than the way is long. Of 5,000 steps and a way of 5,000 counts would become too great so.
 #[test]
 fn copies_are_counted_above_what_they_are_copies_of(rt: HostRuntime) {
-    for (steps, way) in [(1, 1), (1_000, 1_000), (5_000, 5_000), (2, 100_000)] {
-        let game = steps_and_way(&rt, steps, way);
-        assert!(rt; evens(&rt, &game) == Some(0), "{steps} {way}");
+    for (steps, way) in &STEPS {
+        is_odds(&rt, *steps, *way);
     }
 }
 
@@ -304,31 +390,42 @@ fn copies_are_counted_above_what_they_are_copies_of(rt: HostRuntime) {
 fn threads_guess_what_one_guesses_of_copies(rt: HostRuntime) {
     let game = game_of_copies(&rt, &mut Dice::new(10), 300_000, 6);
     let count = evens(&rt, &game);
-    assert!(rt; count.is_some() && count == evens_by_threads(&rt, &game));
+    holds!(&rt; count.is_some() && count == evens_by_threads(&rt, &game));
+    drop(game);
 }
 
-// A game of so many vertices, of which each leads to one, two or three.
-fn large_game(
-    rt: &(impl Abort + AllocGlobal),
-    dice: &mut Dice,
+// A vertex of so many, which leads to one, two or three in its reach.
+fn add_reaching(rt: &impl Abort, rows: &mut Rows, dice: &mut Dice, v: u32, large: Large)
+    requires some { 0 < large.vertices }
+    requires reach { 0 < large.reach }
+    requires few { (0 < large.priorities) × (large.priorities ≤ 33) }
+{
+    let successors = [
+        v.wrapping_add(dice.roll(large.reach)) % large.vertices,
+        v.wrapping_add(dice.roll(large.reach)) % large.vertices,
+        v.wrapping_add(dice.roll(large.reach)) % large.vertices,
+    ];
+    let count = 1 + dice.roll(3) as usize;
+    let priority = dice.roll(u32::from(large.priorities)) as u8;
+    rows.add(rt, owner_of(dice.roll(2)), priority, &successors[..count]);
+}
+
+// A large game: how many vertices it has, how far its edges lead in one way, and how many priorities it may have.
+#[derive(Clone, Copy)]
+struct Large {
     vertices: u32,
     reach: u32,
     priorities: u8,
-) -> Game
-    requires some { 0 < vertices }
-    requires reach { 0 < reach }
-    requires few { (0 < priorities) × (priorities ≤ 33) }
+}
+
+fn large_game(rt: &(impl Abort + AllocGlobal), dice: &mut Dice, large: Large) -> Game
+    requires some { 0 < large.vertices }
+    requires reach { 0 < large.reach }
+    requires few { (0 < large.priorities) × (large.priorities ≤ 33) }
 {
     let mut rows = Rows::new(rt.alloc());
-    for v in 0..vertices {
-        let successors = [
-            v.wrapping_add(dice.roll(reach)) % vertices,
-            v.wrapping_add(dice.roll(reach)) % vertices,
-            v.wrapping_add(dice.roll(reach)) % vertices,
-        ];
-        let count = 1 + dice.roll(3) as usize;
-        let priority = dice.roll(u32::from(priorities)) as u8;
-        rows.add(rt, owner_of(dice.roll(2)), priority, &successors[..count]);
+    for v in 0..large.vertices {
+        add_reaching(rt, &mut rows, dice, v, large);
     }
     rows.finish(rt)
 }
@@ -342,43 +439,72 @@ fn threads_guess_what_one_guesses(rt: HostRuntime) {
     are_guessed_alike(&rt, 10);
 }
 
-fn are_guessed_alike<R: Abort + AllocGlobal + Threads + Sync>(rt: &R, reach: u32)
+// Games of edges that lead so far, one after the other by the same dice.
+fn are_guessed_alike(rt: &(impl Abort + AllocGlobal + Threads + Sync), reach: u32)
     requires { 0 < reach }
 {
     let mut dice = Dice::new(11);
-    for priorities in [2, 3, 10, 31] {
-        let game = large_game(rt, &mut dice, 70_000, reach, priorities);
-        let found = evens_by_threads(rt, &game);
-        assert!(rt;
-            found.is_some() && found == evens(rt, &game),
-            "{reach} {priorities}"
-        );
-    }
+    is_guessed_alike(rt, &mut dice, reach, 2);
+    is_guessed_alike(rt, &mut dice, reach, 3);
+    is_guessed_alike(rt, &mut dice, reach, 10);
+    is_guessed_alike(rt, &mut dice, reach, 31);
+}
+
+fn is_guessed_alike(
+    rt: &(impl Abort + AllocGlobal + Threads + Sync),
+    dice: &mut Dice,
+    reach: u32,
+    priorities: u8,
+)
+    requires reach { 0 < reach }
+    requires few { (0 < priorities) × (priorities ≤ 33) }
+{
+    let vertices = 70_000;
+    let large = Large {
+        vertices,
+        reach,
+        priorities,
+    };
+    let game = large_game(rt, dice, large);
+    let found = evens_by_threads(rt, &game);
+    let is_alike = found.is_some() && found == evens(rt, &game);
+    holds_for_both(rt, is_alike, reach, u32::from(priorities));
+    drop(game);
+}
+
+// A gauge was told of a search.
+fn is_shown(rt: &impl Abort, gauge: &Gauge) {
+    let reading = gauge.reading().expect(rt, "a long search");
+    holds!(rt; 0 < reading.done);
 }
 
 // How many vertices Even wins by a guess, of which a gauge shows the long search.
-fn evens_seen<R: Abort + AllocGlobal + Threads + Sync>(
-    rt: &R,
+fn evens_seen(
+    rt: &(impl Abort + AllocGlobal + Threads + Sync),
     game: &Game,
     workers: usize,
 ) -> Option<u32> {
     let gauge = Gauge::new();
-    let guessed = guess_winners_by(rt, rt.alloc(), game, workers, Some(&gauge))
-        .expect(rt, "memory")
-        .expect(rt, "a guess");
-    let reading = gauge.reading().expect(rt, "a long search");
-    assert!(rt; 0 < reading.done);
-    evens_of(rt, game, &guessed)
+    let guessed = guessed_by(rt, game, workers, Some(&gauge));
+    is_shown(rt, &gauge);
+    let count = evens_of(rt, game, &guessed);
+    drop(guessed);
+    count
 }
 
 // A first try isn't shown. It doesn't suffice for this game.
 #[test]
 fn a_gauge_shows_a_long_search(rt: HostRuntime) {
-    let mut dice = Dice::new(11);
-    let game = large_game(&rt, &mut dice, 70_000, 70_000, 10);
+    let large = Large {
+        vertices: 70_000,
+        reach: 70_000,
+        priorities: 10,
+    };
+    let game = large_game(&rt, &mut Dice::new(11), large);
     let found = evens(&rt, &game);
-    assert!(rt; evens_seen(&rt, &game, 1) == found);
-    assert!(rt; evens_seen(&rt, &game, 4) == found);
+    holds!(&rt; evens_seen(&rt, &game, 1) == found);
+    holds!(&rt; evens_seen(&rt, &game, 4) == found);
+    drop(game);
 }
 
 // Even has the even vertices, and Odd the odd ones.
@@ -400,25 +526,58 @@ fn on_a_ladder_each_wins_the_own_vertices(rt: HostRuntime) {
         rows.add(&rt, owner_of(v), (v % 2) as u8, &next);
     }
     let game = rows.finish(&rt);
-    assert!(rt; evens(&rt, &game) == Some(50_000));
+    holds!(&rt; evens(&rt, &game) == Some(50_000));
+    drop(game);
 }
 
-// Each vertex has its number as priority, and leads to all others. Each player goes between two of the own.
+// All of 32 vertices but one, by their numbers.
+fn push_others(rt: &impl Abort, others: &mut Vec<u32>, v: u8) {
+    for t in 0..32_u8 {
+        if t != v {
+            others.push(u32::from(t)).expect(rt, "memory");
+        }
+    }
+}
+
+// A vertex that has its number as priority, and leads to all others.
+fn add_member(rt: &(impl Abort + AllocGlobal), rows: &mut Rows, v: u8) {
+    let mut others = Vec::new(rt.alloc());
+    push_others(rt, &mut others, v);
+    rows.add(rt, owner_of(u32::from(v)), v, others.as_slice());
+    drop(others);
+}
+
+// Each player goes between two of the own.
 #[test]
 fn in_a_clique_each_wins_the_own_vertices(rt: HostRuntime) {
     let mut rows = Rows::new(rt.alloc());
-    let mut others = Vec::new(rt.alloc());
     for v in 0..32_u8 {
-        others.clear();
-        for t in 0..32_u8 {
-            if t != v {
-                others.push(u32::from(t)).expect(&rt, "memory");
-            }
-        }
-        rows.add(&rt, owner_of(u32::from(v)), v, others.as_slice());
+        add_member(&rt, &mut rows, v);
     }
     let game = rows.finish(&rt);
-    assert!(rt; evens(&rt, &game) == Some(16));
+    holds!(&rt; evens(&rt, &game) == Some(16));
+    drop(game);
+}
+
+// A way of so many vertices of a priority, each leading to the one before. The answer is the number of the last.
+fn add_way(rt: &impl Abort, rows: &mut Rows, priority: u8, way: u32, before: u32) -> u32 {
+    let mut last = before;
+    for _ in 0..way {
+        rows.add(rt, owner_of(last), priority, &[last]);
+        last = last.wrapping_add(1);
+    }
+    last
+}
+
+// Ways of so many levels, from the greatest priority down. The answer is the number of the last vertex.
+fn add_ways(rt: &impl Abort, rows: &mut Rows, levels: u8, width: u32) -> u32
+    requires { levels < 16 }
+{
+    let mut last = 0_u32;
+    for level in (0..levels).rev() {
+        last = add_way(rt, rows, 2 * level + 1, width, last);
+    }
+    last
 }
 
 // A way of rows and a round. The way ends at a vertex that leads to itself. Before it come so many vertices of the greatest odd
@@ -433,27 +592,42 @@ fn climb(rt: &(impl Abort + AllocGlobal), levels: u8, width: u32, winner: Player
     };
     let mut rows = Rows::new(rt.alloc());
     rows.add(rt, Player::Odd, end, &[0]);
-    let mut last = 0_u32;
-    for level in (0..levels).rev() {
-        for _ in 0..width {
-            rows.add(rt, owner_of(last), 2 * level + 1, &[last]);
-            last = last.wrapping_add(1);
-        }
-    }
+    let last = add_ways(rt, &mut rows, levels, width);
     let round = last.wrapping_add(1);
     rows.add(rt, Player::Even, 0, &[last, round.wrapping_add(1)]);
     rows.add(rt, Player::Odd, 1, &[round]);
     rows.finish(rt)
 }
 
+fn is_climb_evens(rt: &(impl Abort + AllocGlobal), levels: u8, width: u32)
+    requires { levels < 16 }
+{
+    let game = climb(rt, levels, width, Player::Even);
+    holds!(rt; evens(rt, &game) == Some(game.vertices()));
+    drop(game);
+}
+
+fn is_climb_odds(rt: &(impl Abort + AllocGlobal), levels: u8, width: u32)
+    requires { levels < 16 }
+{
+    let game = climb(rt, levels, width, Player::Odd);
+    holds!(rt; evens(rt, &game) == Some(0));
+    drop(game);
+}
+
+// Who wins at the end wins the climb of so many levels.
+fn is_climbed(rt: &(impl Abort + AllocGlobal), levels: u8, width: u32)
+    requires { levels < 16 }
+{
+    is_climb_evens(rt, levels, width);
+    is_climb_odds(rt, levels, width);
+}
+
 #[test]
 fn who_wins_at_the_end_of_a_way_wins_the_climb(rt: HostRuntime) {
-    for (levels, width) in [(1, 5), (4, 100), (15, 2_000)] {
-        let game = climb(&rt, levels, width, Player::Even);
-        assert!(rt; evens(&rt, &game) == Some(game.vertices()));
-        let game = climb(&rt, levels, width, Player::Odd);
-        assert!(rt; evens(&rt, &game) == Some(0));
-    }
+    is_climbed(&rt, 1, 5);
+    is_climbed(&rt, 4, 100);
+    is_climbed(&rt, 15, 2_000);
 }
 
 // How many vertices a stair has on its way, and how many there are with the three after it.
@@ -491,29 +665,58 @@ fn stairs_fall_one_by_one(rt: HostRuntime) {
         add_stair(&rt, &mut rows, stair);
     }
     let game = rows.finish(&rt);
-    assert!(rt; evens(&rt, &game).is_some());
+    holds!(&rt; evens(&rt, &game).is_some());
+    drop(game);
+}
+
+// So many numbers from zero on.
+fn numbers(rt: &(impl Abort + AllocGlobal), count: u32) -> Vec<u32> {
+    let mut numbers = Vec::new(rt.alloc());
+    for number in 0..count {
+        numbers.push(number).expect(rt, "memory");
+    }
+    numbers
+}
+
+// The ways of a hub: each leads to a vertex of its own.
+fn add_spokes(rt: &impl Abort, rows: &mut Rows) {
+    for way in 0..20_000_u32 {
+        rows.add(rt, Player::Odd, 1, &[20_000 + way]);
+    }
+}
+
+// Where the play may stay after a way. The first leads on to the hub.
+fn add_stays(rt: &impl Abort, rows: &mut Rows) {
+    for way in 0..20_000_u32 {
+        let before = if way > 0 { way - 1 } else { 20_000 };
+        rows.add(rt, Player::Odd, 0, &[20_000 + way, before]);
+    }
+}
+
+// A way after the hub.
+fn add_tail(rt: &impl Abort, rows: &mut Rows) {
+    for way in 40_000..60_000_u32 {
+        rows.add(rt, Player::Odd, 0, &[way, way + 1]);
+    }
 }
 
 // A hub leads to each of so many vertices of priority 1. These lead to each other in turn, through vertices where the play may
 // stay, and back to the hub. All are Odd's, who can't come through a priority of 1 again and again.
+fn hub(rt: &(impl Abort + AllocGlobal), ways: &[u32]) -> Game {
+    let mut rows = Rows::new(rt.alloc());
+    add_spokes(rt, &mut rows);
+    add_stays(rt, &mut rows);
+    rows.add(rt, Player::Odd, 0, ways);
+    add_tail(rt, &mut rows);
+    rows.finish(rt)
+}
+
 #[test]
 fn a_hub_of_many_ways_is_evens(rt: HostRuntime) {
-    let mut rows = Rows::new(rt.alloc());
-    let mut ways = Vec::new(rt.alloc());
-    for way in 0..20_000_u32 {
-        ways.push(way).expect(&rt, "memory");
-        rows.add(&rt, Player::Odd, 1, &[20_000 + way]);
-    }
-    for way in 0..20_000_u32 {
-        let before = if way > 0 { way - 1 } else { 20_000 };
-        rows.add(&rt, Player::Odd, 0, &[20_000 + way, before]);
-    }
-    rows.add(&rt, Player::Odd, 0, ways.as_slice());
-    for way in 40_000..60_000_u32 {
-        rows.add(&rt, Player::Odd, 0, &[way, way + 1]);
-    }
-    let game = rows.finish(&rt);
-    assert!(rt; evens(&rt, &game) == Some(60_001));
+    let ways = numbers(&rt, 20_000);
+    let game = hub(&rt, ways.as_slice());
+    holds!(&rt; evens(&rt, &game) == Some(60_001));
+    drop(game);
 }
 
 const LEVELS: u8 = 29;
@@ -525,17 +728,22 @@ fn on_level(level: u8, vertex: u32) -> u32
     5 * u32::from(level) + vertex
 }
 
+// The numbers of those vertices whose levels there are.
+fn push_levels(rt: &impl Abort, successors: &mut Vec<u32>, to: &[(u8, u32)]) {
+    for (level, vertex) in to {
+        if *level < LEVELS && *vertex < 5 {
+            let number = on_level(*level, *vertex);
+            successors.push(number).expect(rt, "memory");
+        }
+    }
+}
+
 // A vertex of a recursive ladder, with those of its successors whose levels there are.
 fn add_rung(rt: &impl Abort, rows: &mut Rows, owner: Player, priority: u8, to: &[(u8, u32)]) {
     let mut successors = Vec::new(rows.alloc);
-    for (level, vertex) in to {
-        if *level < LEVELS && *vertex < 5 {
-            successors
-                .push(on_level(*level, *vertex))
-                .expect(rt, "memory");
-        }
-    }
+    push_levels(rt, &mut successors, to);
     rows.add(rt, owner, priority, successors.as_slice());
+    drop(successors);
 }
 
 // A level: five vertices, whose owners and priorities change with it, and which lead to the levels beside it.
@@ -559,5 +767,6 @@ fn a_recursive_ladder_is_guessed(rt: HostRuntime) {
         add_level(&rt, &mut rows, level);
     }
     let game = rows.finish(&rt);
-    assert!(rt; evens(&rt, &game).is_some());
+    holds!(&rt; evens(&rt, &game).is_some());
+    drop(game);
 }

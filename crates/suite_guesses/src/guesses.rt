@@ -1,14 +1,15 @@
 // Guesses from systems and formulas at random: what is claimed of them, and what lifting alone leaves. That a guess changes no
 // answer is proved; that it is good, and so saves time, is not.
 
-ghost use Rattle.std.specs.Prelude.{◌≡◌, ◌<◌, ◌≤◌, IfOk};
+ghost use Rattle.std.specs.Prelude.{◌≡◌, ◌<◌, ◌≤◌};
 
-use crate::random_games::{is_same, lifted_alone};
+use crate::common;
+use crate::common::{counted, holds, lifted_alone, opened, push_step, push_text, system_text};
+use crate::random_games::is_same;
 use calculus::closed::Closed;
 use claims::claimed::Claims;
 use forms::form::Normal;
 use forms::limits::GREATEST_PRIORITY;
-use game::build::build;
 use game::dual::{dual, greatest_priority};
 use game::graph::Game;
 use lts::Lts;
@@ -19,11 +20,8 @@ use measures::observer::Silent;
 use measures::progs::is_measure;
 use measures::proposal::Proposal;
 use measures::settle::{is_settled, settle};
-use measures::table::opening;
-use normal::make::normal;
+use measures::table::{PlainTable, Settled};
 use samples::dice::Dice;
-use samples::texts::{parsed_formula, system_read};
-use std::alloc::{AllocError, Global};
 use std::process::Abort;
 use std::thread::Threads;
 
@@ -59,45 +57,58 @@ static CLOSED: [&str; 6] = [
 // What stands before an operand, and how many parentheses it opens. Binders stand first, an action and a junction last.
 pub(crate) static HEADS: [&str; 5] = ["[a](", "<true>(", "[!a](", "<b>(", "[a|b]("];
 
-// A system with so many states: some have no steps, some several to the same state, some one to themselves.
-pub(crate) fn roll_system(alloc: Global, dice: &mut Dice, states: u32) -> Result<String, AllocError>
+// So many steps from a state, to any of so many.
+fn roll_steps(
+    rt: &impl Abort,
+    dice: &mut Dice,
+    rows: &mut String,
+    source: u32,
+    steps: u32,
+    states: u32,
+)
     requires { 0 < states }
 {
-    let mut rows = String::new(alloc);
+    for _ in 0..steps {
+        let label = LABELS[dice.roll(3) as usize];
+        push_step(rt, rows, source, label, dice.roll(states));
+    }
+}
+
+// The steps from each state. The answer is how many there are.
+fn roll_rows(rt: &impl Abort, dice: &mut Dice, rows: &mut String, states: u32) -> u32
+    requires { 0 < states }
+{
     let mut count = 0_u32;
     for source in 0..states {
-        for _ in 0..dice.roll(4) {
-            let label = LABELS[dice.roll(3) as usize];
-            let target = dice.roll(states);
-            write!(rows, "({source},\"{label}\",{target})\n")?;
-            count = count.saturating_add(1);
-        }
+        let steps = dice.roll(4);
+        roll_steps(rt, dice, rows, source, steps, states);
+        count = count.saturating_add(steps);
     }
-    let mut text = format!(in alloc; "des (0,{count},{states})\n")?;
-    text.push_str(&rows)?;
-    Ok(text)
+    count
+}
+
+// A system with so many states: some have no steps, some several to the same state, some one to themselves.
+pub(crate) fn roll_system(rt: &(impl Abort + AllocGlobal), dice: &mut Dice, states: u32) -> String
+    requires { 0 < states }
+{
+    let mut rows = String::new(rt.alloc());
+    let count = roll_rows(rt, dice, &mut rows, states);
+    system_text(rt, count, states, &rows)
 }
 
 // A variable in scope, where there is one, or else something closed.
-pub(crate) fn roll_leaf(
-    dice: &mut Dice,
-    text: &mut String,
-    binders: u32,
-) -> Result<(), AllocError> {
+pub(crate) fn roll_leaf(rt: &impl Abort, dice: &mut Dice, text: &mut String, binders: u32) {
     let is_closed = dice.roll(4) == 0;
     let variable = dice.roll(4);
     if is_closed || variable >= binders {
-        text.push_str(CLOSED[dice.roll(6) as usize])?;
-        return Ok(());
+        push_text(rt, text, CLOSED[dice.roll(6) as usize]);
+    } else if dice.roll(2) == 0 {
+        push_text(rt, text, HEADS[dice.roll(5) as usize]);
+        push_text(rt, text, VARIABLES[variable as usize]);
+        push_text(rt, text, ")");
+    } else {
+        push_text(rt, text, VARIABLES[variable as usize]);
     }
-    if dice.roll(2) == 0 {
-        text.push_str(HEADS[dice.roll(5) as usize])?;
-        text.push_str(VARIABLES[variable as usize])?;
-        text.push_str(")")?;
-        return Ok(());
-    }
-    text.push_str(VARIABLES[variable as usize])?;
-    Ok(())
 }
 
 // How many parentheses and binders are open.
@@ -107,57 +118,77 @@ struct Open {
     binders: u32,
 }
 
-// One more binder, action or junction.
-fn roll_head(dice: &mut Dice, text: &mut String, open: Open) -> Result<Open, AllocError> {
-    let Open {
-        parentheses,
-        binders,
-    } = open;
-    let one = parentheses.saturating_add(1);
-    match dice.roll(6) {
-        0 | 1 if binders < 4 => {
-            text.push_str(if dice.roll(2) == 0 { "mu " } else { "nu " })?;
-            text.push_str(VARIABLES[binders as usize])?;
-            text.push_str(". (")?;
-            Ok(Open {
-                parentheses: one,
-                binders: binders.saturating_add(1),
-            })
-        }
-        2 | 3 => {
-            text.push_str(HEADS[dice.roll(5) as usize])?;
-            Ok(Open {
-                parentheses: one,
-                binders,
-            })
-        }
-        _ => {
-            text.push_str("(")?;
-            roll_leaf(dice, text, binders)?;
-            text.push_str(if dice.roll(2) == 0 { " && (" } else { " || (" })?;
-            Ok(Open {
-                parentheses: one.saturating_add(1),
-                binders,
-            })
+impl Open {
+    // So many more of each are open.
+    fn and(self, parentheses: u32, binders: u32) -> Open {
+        Open {
+            parentheses: self.parentheses.saturating_add(parentheses),
+            binders: self.binders.saturating_add(binders),
         }
     }
 }
 
-// A closed formula.
-fn roll_formula(alloc: Global, dice: &mut Dice) -> Result<String, AllocError> {
-    let mut text = String::new(alloc);
+// One more binder.
+fn roll_binder(rt: &impl Abort, dice: &mut Dice, text: &mut String, binders: u32)
+    requires { binders < 4 }
+{
+    push_text(rt, text, if dice.roll(2) == 0 { "mu " } else { "nu " });
+    push_text(rt, text, VARIABLES[binders as usize]);
+    push_text(rt, text, ". (");
+}
+
+// One more junction, with its first operand.
+fn roll_operand(rt: &impl Abort, dice: &mut Dice, text: &mut String, binders: u32) {
+    push_text(rt, text, "(");
+    roll_leaf(rt, dice, text, binders);
+    push_text(rt, text, if dice.roll(2) == 0 { " && (" } else { " || (" });
+}
+
+// One more binder, action or junction.
+fn roll_head(rt: &impl Abort, dice: &mut Dice, text: &mut String, open: Open) -> Open {
+    match dice.roll(6) {
+        0 | 1 if open.binders < 4 => {
+            roll_binder(rt, dice, text, open.binders);
+            open.and(1, 1)
+        }
+        2 | 3 => {
+            push_text(rt, text, HEADS[dice.roll(5) as usize]);
+            open.and(1, 0)
+        }
+        _ => {
+            roll_operand(rt, dice, text, open.binders);
+            open.and(2, 0)
+        }
+    }
+}
+
+// So many heads. The answer is what they leave open.
+fn roll_heads(rt: &impl Abort, dice: &mut Dice, text: &mut String, heads: u32) -> Open {
     let mut open = Open {
         parentheses: 0,
         binders: 0,
     };
-    for _ in 0..4 + dice.roll(8) {
-        open = roll_head(dice, &mut text, open)?;
+    for _ in 0..heads {
+        open = roll_head(rt, dice, text, open);
     }
-    roll_leaf(dice, &mut text, open.binders)?;
-    for _ in 0..open.parentheses {
-        text.push_str(")")?;
+    open
+}
+
+/// Closes so many parentheses.
+pub(crate) fn push_ends(rt: &impl Abort, text: &mut String, parentheses: u32) {
+    for _ in 0..parentheses {
+        push_text(rt, text, ")");
     }
-    Ok(text)
+}
+
+// A closed formula.
+fn roll_formula(rt: &(impl Abort + AllocGlobal), dice: &mut Dice) -> String {
+    let mut text = String::new(rt.alloc());
+    let heads = 4 + dice.roll(8);
+    let open = roll_heads(rt, dice, &mut text, heads);
+    roll_leaf(rt, dice, &mut text, open.binders);
+    push_ends(rt, &mut text, open.parentheses);
+    text
 }
 
 /// A system, a formula with its normal form, and their game.
@@ -176,9 +207,12 @@ pub(crate) fn roll_question(
 ) -> Question
     requires { 0 < states }
 {
-    let system = roll_system(rt.alloc(), dice, states).expect(rt, "memory");
-    let text = roll_formula(rt.alloc(), dice).expect(rt, "memory");
-    question_of(rt, &system, &text)
+    let system = roll_system(rt, dice, states);
+    let text = roll_formula(rt, dice);
+    let question = question_of(rt, &system, &text);
+    drop(text);
+    drop(system);
+    question
 }
 
 /// The question of these texts.
@@ -187,16 +221,32 @@ pub(crate) fn question_of(
     system: &str,
     text: &str,
 ) -> Question {
-    let lts = system_read(rt.alloc(), system).expect(rt, "a system");
-    let formula = parsed_formula(rt.alloc(), text).expect(rt, "a formula");
-    let form = normal(rt.alloc(), &formula).expect(rt, "a normal form");
-    let game = build(rt, rt.alloc(), &lts, &form).expect(rt, "a game");
+    let lts = common::system(rt, system);
+    let formula = common::formula(rt, text);
+    let form = common::normal_form(rt, &formula);
+    let game = common::game(rt, &lts, &form);
     Question {
         lts,
         formula,
         form,
         game,
     }
+}
+
+/// What is claimed of the game of a question, if there is something.
+pub(crate) fn claims<'q>(
+    rt: &(impl Abort + AllocGlobal),
+    question: &'q Question,
+) -> Option<Claims<'q>> {
+    Claims::of(rt.alloc(), &question.lts, &question.form).expect(rt, "memory")
+}
+
+/// The same of the game's dual.
+pub(crate) fn claims_of_dual<'q>(
+    rt: &(impl Abort + AllocGlobal),
+    question: &'q Question,
+) -> Option<Claims<'q>> {
+    Claims::of_dual(rt.alloc(), &question.lts, &question.form).expect(rt, "memory")
 }
 
 /// How a guess ended: how many components the nodes have that were guessed, how many were accepted, and whether nothing was left.
@@ -207,19 +257,54 @@ pub(crate) struct Ended {
     pub(crate) whole: bool,
 }
 
-/// The table that is guessed has to be as lifting leaves it.
+// The opening table jumps to what is guessed. The answer is how many parts were accepted.
+fn accepted<G: Guess>(
+    rt: &(impl Abort + AllocGlobal),
+    game: &Game,
+    table: &mut PlainTable,
+    guess: &G,
+) -> u32
+    requires { table.old.game ≡ game.now }
+    ensures { table.new.game ≡ game.now }
+{
+    jump_to_guess(rt.alloc(), game, table, guess).expect(rt, "memory")
+}
+
+/// The least progress table, as a guess helps to find it.
+pub(crate) fn solved_by<G: Guess>(
+    rt: &(impl Abort + AllocGlobal),
+    game: &Game,
+    guess: &G,
+) -> Settled
+    ensures { result.game ≡ game.now }
+{
+    solve_one_by(rt.alloc(), game, guess, &Silent).expect(rt, "memory")
+}
+
+/// A table has to be as lifting alone leaves it.
+pub(crate) fn is_as_lifted(rt: &(impl Abort + AllocGlobal), game: &Game, solved: &Settled)
+    requires { solved.now.game ≡ game.now }
+{
+    let lifted = lifted_alone(rt, game);
+    holds!(rt; is_same(game, solved, &lifted));
+    drop(lifted);
+}
+
+/// The table that is guessed, and the one that is lifted from what was accepted, have to be as lifting alone leaves it.
 pub(crate) fn ends_alike(
     rt: &(impl Abort + AllocGlobal),
     game: &Game,
     guess: &Claims<'_>,
 ) -> Ended {
-    let mut table = opening(rt.alloc(), game).expect(rt, "memory");
-    let accepted = jump_to_guess(rt.alloc(), game, &mut table, guess).expect(rt, "memory");
+    let mut table = opened(rt, game);
+    let accepted = accepted(rt, game, &mut table, guess);
     let whole = is_settled(game, &table);
     settle(game, &mut table);
-    let solved = solve_one_by(rt.alloc(), game, guess, &Silent).expect(rt, "memory");
-    let lifted = lifted_alone(rt.alloc(), game).expect(rt, "memory");
-    assert!(rt; is_same(game, &solved, &lifted) && is_same(game, &solved, &table));
+    let solved = solved_by(rt, game, guess);
+    holds!(rt; is_same(game, &solved, &table));
+    is_as_lifted(rt, game, &solved);
+    drop(solved);
+    drop(table);
     Ended {
         guessed: guess.parts(),
         accepted,
@@ -227,10 +312,24 @@ pub(crate) fn ends_alike(
     }
 }
 
-// Whether nothing is left to lift. All that is guessed is accepted.
-fn is_whole(rt: &impl Abort, ended: Ended) -> bool {
-    assert!(rt; ended.accepted == ended.guessed);
-    ended.whole
+// Whether nothing is left to lift, where something is guessed. All that is guessed is accepted.
+fn is_whole(rt: &(impl Abort + AllocGlobal), game: &Game, guess: &Option<Claims<'_>>) -> bool {
+    match guess {
+        Some(guess) => {
+            let ended = ends_alike(rt, game, guess);
+            holds!(rt; ended.accepted == ended.guessed);
+            ended.whole
+        }
+        None => false,
+    }
+}
+
+// The same of a question's game.
+fn is_claimed(rt: &(impl Abort + AllocGlobal), question: &Question) -> bool {
+    let guess = claims(rt, question);
+    let is_whole = is_whole(rt, &question.game, &guess);
+    drop(guess);
+    is_whole
 }
 
 #[test]
@@ -239,21 +338,13 @@ fn guesses_and_lifting_alone_end_alike(rt: HostRuntime) {
     let mut whole = 0_u32;
     for _ in 0..QUESTIONS {
         let states = 1 + dice.roll(20);
-        let Question {
-            lts,
-            form,
-            game,
-            ..
-        } = roll_question(&rt, &mut dice, states);
-        let guess = Claims::of(rt.alloc(), &lts, &form).expect(&rt, "memory");
-        let Some(guess) = guess else {
-            continue;
-        };
-        if is_whole(&rt, ends_alike(&rt, &game, &guess)) {
+        let question = roll_question(&rt, &mut dice, states);
+        if is_claimed(&rt, &question) {
             whole = whole.saturating_add(1);
         }
+        drop(question);
     }
-    assert!(rt; whole >= LEAST_WHOLE, "{whole}");
+    counted(&rt, whole, LEAST_WHOLE);
 }
 
 /// The dual of a game, where its priorities fit.
@@ -264,6 +355,26 @@ pub(crate) fn dual_of(rt: &(impl Abort + AllocGlobal), game: &Game) -> Option<Ga
     Some(dual(rt.alloc(), game).expect(rt, "memory"))
 }
 
+// Whether nothing is left to lift in the dual of a question's game, which is this.
+fn is_claimed_of(rt: &(impl Abort + AllocGlobal), question: &Question, turned: &Game) -> bool {
+    let guess = claims_of_dual(rt, question);
+    let is_whole = is_whole(rt, turned, &guess);
+    drop(guess);
+    is_whole
+}
+
+// The same where there is a dual.
+fn is_claimed_of_dual(rt: &(impl Abort + AllocGlobal), question: &Question) -> bool {
+    match dual_of(rt, &question.game) {
+        Some(turned) => {
+            let is_claimed = is_claimed_of(rt, question, &turned);
+            drop(turned);
+            is_claimed
+        }
+        None => false,
+    }
+}
+
 #[test]
 fn guesses_of_duals_and_lifting_alone_end_alike(rt: HostRuntime) {
     let mut dice = Dice::new(17);
@@ -271,16 +382,12 @@ fn guesses_of_duals_and_lifting_alone_end_alike(rt: HostRuntime) {
     for _ in 0..QUESTIONS {
         let states = 1 + dice.roll(20);
         let question = roll_question(&rt, &mut dice, states);
-        let guess = Claims::of_dual(rt.alloc(), &question.lts, &question.form);
-        let guess = guess.expect(&rt, "memory");
-        let (Some(turned), Some(guess)) = (dual_of(&rt, &question.game), guess) else {
-            continue;
-        };
-        if is_whole(&rt, ends_alike(&rt, &turned, &guess)) {
+        if is_claimed_of_dual(&rt, &question) {
             whole = whole.saturating_add(1);
         }
+        drop(question);
     }
-    assert!(rt; whole >= LEAST_WHOLE_DUALS, "{whole}");
+    counted(&rt, whole, LEAST_WHOLE_DUALS);
 }
 
 // What is wrong with a guess.
@@ -292,10 +399,10 @@ enum Fault {
     Component,
 }
 
-const FAULTS: [Fault; 4] = [Fault::Value, Fault::Rank, Fault::Move, Fault::Component];
+static FAULTS: [Fault; 4] = [Fault::Value, Fault::Rank, Fault::Move, Fault::Component];
 
 /// A guess with a fault at a vertex, or at all vertices of each component.
-#[derive(Drop)]
+#[derive(Clone, Copy)]
 struct Wrong<'g> {
     guess: &'g Claims<'g>,
     fault: Fault,
@@ -372,34 +479,57 @@ impl Guess for Wrong<'_> {
     }
 }
 
-// Each fault, at some vertex: the table is as lifting leaves it. The answer is how many faults were refused.
-fn changes_nothing(rt: &(impl Abort + AllocGlobal), question: &Question, vertex: u32) -> u32 {
-    let Question {
-        lts,
-        form,
-        game,
-        ..
-    } = question;
-    let Some(guess) = Claims::of(rt.alloc(), lts, form).expect(rt, "memory") else {
-        return 0;
-    };
-    let lifted = lifted_alone(rt.alloc(), game).expect(rt, "memory");
+// Whether a wrong guess isn't accepted whole. The table that is guessed is the same.
+fn is_refused(
+    rt: &(impl Abort + AllocGlobal),
+    game: &Game,
+    wrong: &Wrong<'_>,
+    lifted: &PlainTable,
+) -> bool
+    requires { lifted.now.game ≡ game.now }
+{
+    let solved = solved_by(rt, game, wrong);
+    holds!(rt; is_same(game, &solved, lifted));
+    drop(solved);
+    let mut table = opened(rt, game);
+    let accepted = accepted(rt, game, &mut table, wrong);
+    drop(table);
+    accepted < wrong.parts()
+}
+
+// How many faults are refused of a guess.
+fn count_refused(
+    rt: &(impl Abort + AllocGlobal),
+    game: &Game,
+    guess: &Claims<'_>,
+    vertex: u32,
+) -> u32 {
+    let lifted = lifted_alone(rt, game);
     let mut refused = 0_u32;
-    for fault in FAULTS {
+    for fault in &FAULTS {
         let wrong = Wrong {
-            guess: &guess,
-            fault,
+            guess: &*guess,
+            fault: *fault,
             vertex,
         };
-        let solved = solve_one_by(rt.alloc(), game, &wrong, &Silent).expect(rt, "memory");
-        assert!(rt; is_same(game, &solved, &lifted));
-        let mut table = opening(rt.alloc(), game).expect(rt, "memory");
-        let accepted = jump_to_guess(rt.alloc(), game, &mut table, &wrong).expect(rt, "memory");
-        if accepted < wrong.parts() {
+        if is_refused(rt, game, &wrong, &lifted) {
             refused = refused.saturating_add(1);
         }
     }
+    drop(lifted);
     refused
+}
+
+// Each fault, at some vertex: the table is as lifting leaves it. The answer is how many faults were refused.
+fn changes_nothing(rt: &(impl Abort + AllocGlobal), question: &Question, vertex: u32) -> u32 {
+    match claims(rt, question) {
+        Some(guess) => {
+            let refused = count_refused(rt, &question.game, &guess, vertex);
+            drop(guess);
+            refused
+        }
+        None => 0,
+    }
 }
 
 #[test]
@@ -411,6 +541,7 @@ fn wrong_guesses_change_no_answer(rt: HostRuntime) {
         let question = roll_question(&rt, &mut dice, states);
         let vertex = dice.roll(question.game.vertices().max(1));
         refused = refused.saturating_add(changes_nothing(&rt, &question, vertex));
+        drop(question);
     }
-    assert!(rt; refused >= LEAST_REFUSED, "{refused}");
+    counted(&rt, refused, LEAST_REFUSED);
 }

@@ -3,11 +3,11 @@
 
 ghost use Rattle.std.specs.Prelude.{◌≡◌, ◌<◌, ◌≤◌, length};
 
-use crate::random_games::{is_same, lifted_alone};
-use certify::decide::certified_winners;
+use crate::common::{holds, holds_for, holds_for_both, lifted_alone, solved};
+use crate::random_games::{certified, is_marked, is_same};
 use game::graph::{Game, GameBuilder};
 use game::player::Player;
-use measures::settle::{even_wins, solve_one};
+use measures::settle::even_wins;
 use measures::table::Settled;
 use samples::games::push_row;
 use std::process::Abort;
@@ -45,29 +45,47 @@ fn are_won(game: &Game, settled: &Settled, wins: EvenWins) -> bool
     true
 }
 
-// Whether evidence of just those is guessed, and the checker accepts it.
-fn is_certified(rt: &(impl Abort + AllocGlobal), game: &Game, wins: EvenWins) -> bool {
-    let marks = certified_winners(rt.alloc(), game, None).expect(rt, "good evidence");
+// Whether marks are of just those.
+fn are_marks(game: &Game, wins: EvenWins, marks: &[bool]) -> bool {
     for v in 0..game.vertices() {
-        if marks.get(v as usize) != Some(&wins.has(game, v)) {
+        if is_marked(marks, v) != wins.has(game, v) {
             return false;
         }
     }
-    true
+    marks.len() == game.vertices() as usize
+}
+
+// Whether evidence of just those is guessed, and the checker accepts it.
+fn is_certified(rt: &(impl Abort + AllocGlobal), game: &Game, wins: EvenWins) -> bool {
+    let marks = certified(rt, game);
+    let are_marks = are_marks(game, wins, marks.as_slice());
+    drop(marks);
+    are_marks
 }
 
 fn is_solved(rt: &(impl Abort + AllocGlobal), game: &Game, wins: EvenWins) -> bool {
-    let settled = solve_one(rt.alloc(), game).expect(rt, "memory");
-    are_won(game, &settled, wins)
+    let settled = solved(rt, game);
+    let are_won = are_won(game, &settled, wins);
+    drop(settled);
+    are_won
+}
+
+// Whether lifting alone leaves the same table.
+fn is_as_lifted(rt: &(impl Abort + AllocGlobal), game: &Game, settled: &Settled) -> bool
+    requires { settled.now.game ≡ game.now }
+{
+    let lifted = lifted_alone(rt, game);
+    let is_same = is_same(game, settled, &lifted);
+    drop(lifted);
+    is_same
 }
 
 // The same where the game is so small that lifting alone ends soon, and then as it does.
 fn is_lifted(rt: &(impl Abort + AllocGlobal), game: &Game, wins: EvenWins) -> bool {
-    let settled = solve_one(rt.alloc(), game).expect(rt, "memory");
-    let lifted = lifted_alone(rt.alloc(), game).expect(rt, "memory");
-    are_won(game, &settled, wins)
-        && is_same(game, &settled, &lifted)
-        && is_certified(rt, game, wins)
+    let settled = solved(rt, game);
+    let is_lifted = are_won(game, &settled, wins) && is_as_lifted(rt, game, &settled);
+    drop(settled);
+    is_lifted && is_certified(rt, game, wins)
 }
 
 // Even has the even vertices, and Odd the odd ones.
@@ -79,48 +97,105 @@ fn owner_of(v: u32) -> Player {
     }
 }
 
+// A game gets one more vertex.
+fn push(
+    rt: &impl Abort,
+    builder: &mut GameBuilder,
+    owner: Player,
+    priority: u8,
+    successors: &[u32],
+) {
+    push_row(builder, owner, priority, successors).expect(rt, "memory");
+}
+
+fn finished(rt: &impl Abort, builder: GameBuilder) -> Game {
+    builder.finish().expect(rt, "a game")
+}
+
 // A ring of rungs: a vertex of Even with priority 0, and one of Odd with priority 1. From each the play goes on to one of the
 // two after it. So each player can stay at the own vertices, whose priority is good.
-fn ladder(rt: &(impl Abort + AllocGlobal), rungs: u32) -> Option<Game>
+fn push_rungs(rt: &impl Abort, builder: &mut GameBuilder, rungs: u32)
     requires some { 1 < rungs }
     requires few { rungs ≤ 1_000_000 }
 {
-    let mut builder = GameBuilder::new(rt.alloc());
     let vertices = 2 * rungs;
     for v in 0..vertices {
         let (near, far) = ((v + 1) % vertices, (v + 2) % vertices);
         let next = [near.min(far), near.max(far)];
-        push_row(&mut builder, owner_of(v), (v % 2) as u8, &next).expect(rt, "memory");
+        push(rt, builder, owner_of(v), (v % 2) as u8, &next);
     }
-    builder.finish()
+}
+
+fn ladder(rt: &(impl Abort + AllocGlobal), rungs: u32) -> Game
+    requires some { 1 < rungs }
+    requires few { rungs ≤ 1_000_000 }
+{
+    let mut builder = GameBuilder::new(rt.alloc());
+    push_rungs(rt, &mut builder, rungs);
+    finished(rt, builder)
+}
+
+fn is_ladder_lifted(rt: &(impl Abort + AllocGlobal), rungs: u32)
+    requires some { 1 < rungs }
+    requires few { rungs ≤ 1_000_000 }
+{
+    let game = ladder(rt, rungs);
+    holds_for(rt, is_lifted(rt, &game, EvenWins::Own), rungs);
+    drop(game);
 }
 
 #[test]
 fn on_a_ladder_each_wins_the_own_vertices(rt: HostRuntime) {
     for rungs in 2..40 {
-        let game = ladder(&rt, rungs).expect(&rt, "a ladder");
-        assert!(rt; is_lifted(&rt, &game, EvenWins::Own), "{rungs}");
+        is_ladder_lifted(&rt, rungs);
     }
-    let game = ladder(&rt, 50_000).expect(&rt, "a ladder");
-    assert!(rt; is_solved(&rt, &game, EvenWins::Own) && is_certified(&rt, &game, EvenWins::Own));
+    let game = ladder(&rt, 50_000);
+    holds!(&rt; is_solved(&rt, &game, EvenWins::Own) && is_certified(&rt, &game, EvenWins::Own));
+    drop(game);
 }
 
-// Each vertex has its number as priority, and leads to all others.
-fn clique(rt: &(impl Abort + AllocGlobal), vertices: u32) -> Option<Game>
+// All vertices of so many but one, by their numbers.
+fn push_others(rt: &impl Abort, others: &mut Vec<u32>, vertices: u32, v: u32) {
+    others.clear();
+    for t in 0..vertices {
+        if t != v {
+            others.push(t).expect(rt, "memory");
+        }
+    }
+}
+
+// A vertex that has its number as priority, and leads to all others.
+fn push_member(rt: &(impl Abort + AllocGlobal), builder: &mut GameBuilder, vertices: u32, v: u32)
+    requires { v < 256 }
+{
+    let mut others = Vec::new(rt.alloc());
+    push_others(rt, &mut others, vertices, v);
+    push(rt, builder, owner_of(v), v as u8, others.as_slice());
+    drop(others);
+}
+
+fn push_members(rt: &(impl Abort + AllocGlobal), builder: &mut GameBuilder, vertices: u32)
+    requires { vertices ≤ 33 }
+{
+    for v in 0..vertices {
+        push_member(rt, builder, vertices, v);
+    }
+}
+
+fn clique(rt: &(impl Abort + AllocGlobal), vertices: u32) -> Game
     requires { vertices ≤ 33 }
 {
     let mut builder = GameBuilder::new(rt.alloc());
-    let mut others = Vec::new(rt.alloc());
-    for v in 0..vertices {
-        others.clear();
-        for t in 0..vertices {
-            if t != v {
-                others.push(t).expect(rt, "memory");
-            }
-        }
-        push_row(&mut builder, owner_of(v), v as u8, others.as_slice()).expect(rt, "memory");
-    }
-    builder.finish()
+    push_members(rt, &mut builder, vertices);
+    finished(rt, builder)
+}
+
+fn is_clique_lifted(rt: &(impl Abort + AllocGlobal), vertices: u32, wins: EvenWins)
+    requires { vertices ≤ 33 }
+{
+    let game = clique(rt, vertices);
+    holds_for(rt, is_lifted(rt, &game, wins), vertices);
+    drop(game);
 }
 
 // Of two vertices the play meets both. Of three, Odd has one and must leave it, and Even goes between her two. Of more, each
@@ -133,9 +208,35 @@ fn in_a_clique_who_has_two_vertices_wins_them(rt: HostRuntime) {
             3 => EvenWins::All,
             _ => EvenWins::Own,
         };
-        let game = clique(&rt, vertices).expect(&rt, "a clique");
-        assert!(rt; is_lifted(&rt, &game, wins), "{vertices}");
+        is_clique_lifted(&rt, vertices, wins);
     }
+}
+
+// So many vertices of a priority, each leading to the one before. The answer is the number of the last.
+fn push_way(
+    rt: &impl Abort,
+    builder: &mut GameBuilder,
+    priority: u8,
+    width: u32,
+    before: u32,
+) -> u32 {
+    let mut last = before;
+    for _ in 0..width {
+        push(rt, builder, owner_of(last), priority, &[last]);
+        last = last.wrapping_add(1);
+    }
+    last
+}
+
+// A way of rows, from the greatest priority down. The answer is the number of its last vertex.
+fn push_ways(rt: &impl Abort, builder: &mut GameBuilder, rows: u8, width: u32) -> u32
+    requires { rows < 16 }
+{
+    let mut last = 0_u32;
+    for row in (0..rows).rev() {
+        last = push_way(rt, builder, 2 * row + 1, width, last);
+    }
+    last
 }
 
 // A climb: a way of rows, and a round. The way ends at a vertex that leads to itself. Before it come so many vertices of the
@@ -143,58 +244,69 @@ fn in_a_clique_who_has_two_vertices_wins_them(rt: HostRuntime) {
 // goes either to the beginning of the way or to a vertex of priority 1 that leads back. So the winner at the way's end wins
 // everywhere: Even has to leave the round at some time. Lifting alone goes round it once for each measure below the one at
 // the beginning of the way.
-fn climb(rt: &(impl Abort + AllocGlobal), rows: u8, width: u32, winner: Player) -> Option<Game> {
-    assert!(rt; rows < 16);
+fn push_climb(rt: &impl Abort, builder: &mut GameBuilder, rows: u8, width: u32, winner: Player)
+    requires { rows < 16 }
+{
     let end = match winner {
         Player::Even => 2 * rows,
         Player::Odd => 2 * rows + 1,
     };
-    let mut builder = GameBuilder::new(rt.alloc());
-    push_row(&mut builder, Player::Odd, end, &[0]).expect(rt, "memory");
-    let mut last: u32 = 0;
-    for row in (0..rows).rev() {
-        for _ in 0..width {
-            push_row(&mut builder, owner_of(last), 2 * row + 1, &[last]).expect(rt, "memory");
-            last = last.wrapping_add(1);
-        }
-    }
+    push(rt, builder, Player::Odd, end, &[0]);
+    let last = push_ways(rt, builder, rows, width);
     let round = last.wrapping_add(1);
-    push_row(
-        &mut builder,
-        Player::Even,
-        0,
-        &[last, round.wrapping_add(1)],
-    )
-    .expect(rt, "memory");
-    push_row(&mut builder, Player::Odd, 1, &[round]).expect(rt, "memory");
-    builder.finish()
+    push(rt, builder, Player::Even, 0, &[last, round.wrapping_add(1)]);
+    push(rt, builder, Player::Odd, 1, &[round]);
+}
+
+fn climb(rt: &(impl Abort + AllocGlobal), rows: u8, width: u32, winner: Player) -> Game {
+    holds!(rt; rows < 16);
+    let mut builder = GameBuilder::new(rt.alloc());
+    push_climb(rt, &mut builder, rows, width, winner);
+    finished(rt, builder)
 }
 
 // Rows, and how many vertices each has.
-const SMALL: [(u8, u32); 4] = [(1, 50), (2, 12), (3, 6), (4, 3)];
+static SMALL: [(u8, u32); 4] = [(1, 50), (2, 12), (3, 6), (4, 3)];
+
+fn is_climb_lifted(
+    rt: &(impl Abort + AllocGlobal),
+    rows: u8,
+    width: u32,
+    winner: Player,
+    wins: EvenWins,
+) {
+    let game = climb(rt, rows, width, winner);
+    holds_for_both(rt, is_lifted(rt, &game, wins), u32::from(rows), width);
+    drop(game);
+}
 
 #[test]
 fn who_wins_at_the_end_of_a_way_wins_the_climb(rt: HostRuntime) {
-    for (rows, width) in SMALL {
-        let even = climb(&rt, rows, width, Player::Even).expect(&rt, "a climb");
-        assert!(rt; is_lifted(&rt, &even, EvenWins::All), "Even, {rows} rows");
-        let odd = climb(&rt, rows, width, Player::Odd).expect(&rt, "a climb");
-        assert!(rt; is_lifted(&rt, &odd, EvenWins::None), "Odd, {rows} rows");
+    for (rows, width) in &SMALL {
+        is_climb_lifted(&rt, *rows, *width, Player::Even, EvenWins::All);
+        is_climb_lifted(&rt, *rows, *width, Player::Odd, EvenWins::None);
     }
 }
 
 // Climbs on which lifting would take years.
-const LARGE: [(u8, u32); 3] = [(4, 100), (4, 20_000), (15, 1_000)];
+static LARGE: [(u8, u32); 3] = [(4, 100), (4, 20_000), (15, 1_000)];
+
+fn is_climb_certified(
+    rt: &(impl Abort + AllocGlobal),
+    rows: u8,
+    width: u32,
+    winner: Player,
+    wins: EvenWins,
+) {
+    let game = climb(rt, rows, width, winner);
+    holds_for_both(rt, is_certified(rt, &game, wins), u32::from(rows), width);
+    drop(game);
+}
 
 #[test]
 fn large_climbs_are_won_by_good_evidence(rt: HostRuntime) {
-    for (rows, width) in LARGE {
-        let even = climb(&rt, rows, width, Player::Even).expect(&rt, "a climb");
-        assert!(rt;
-            is_certified(&rt, &even, EvenWins::All),
-            "Even, {rows} rows"
-        );
-        let odd = climb(&rt, rows, width, Player::Odd).expect(&rt, "a climb");
-        assert!(rt; is_certified(&rt, &odd, EvenWins::None), "Odd, {rows} rows");
+    for (rows, width) in &LARGE {
+        is_climb_certified(&rt, *rows, *width, Player::Even, EvenWins::All);
+        is_climb_certified(&rt, *rows, *width, Player::Odd, EvenWins::None);
     }
 }

@@ -4,6 +4,8 @@
 #[cfg(test)]
 mod claims_by_hand;
 #[cfg(test)]
+mod common;
+#[cfg(test)]
 mod guessed_columns;
 #[cfg(test)]
 mod guessed_winners;

@@ -1,15 +1,16 @@
 // Guesses where three blocks of binders or more alternate, from systems and formulas at random, and what lifting alone leaves.
 
-ghost use Rattle.std.specs.Prelude.{◌<◌};
+ghost use Rattle.std.specs.Prelude.{◌<◌, ◌≤◌};
 
-use crate::guesses::{HEADS, Question, dual_of, ends_alike, question_of, roll_leaf, roll_system};
-use crate::random_games::{is_same, lifted_alone};
+use crate::common::{counted, holds, push_step, push_text, system_head};
+use crate::guesses::{
+    HEADS, Question, claims, claims_of_dual, dual_of, ends_alike, is_as_lifted, push_ends,
+    question_of, roll_leaf, roll_system, solved_by,
+};
 use claims::claimed::Claims;
 use game::graph::Game;
-use measures::guess::{settled_by_guess, solve_one_by};
-use measures::observer::Silent;
+use measures::guess::{Guess, settled_by_guess};
 use samples::dice::Dice;
-use std::alloc::{AllocError, Global};
 use std::process::Abort;
 use std::thread::Threads;
 
@@ -42,61 +43,75 @@ struct Tally {
     proposed: u32,
 }
 
+const NONE_YET: Tally = Tally {
+    claimed: 0,
+    proposed: 0,
+};
+
 // What stands between an operand and the next, which is in parentheses.
-fn roll_junction(dice: &mut Dice, text: &mut String) -> Result<(), AllocError> {
-    text.push_str(if dice.roll(2) == 0 {
-        ") && ("
-    } else {
-        ") || ("
-    })?;
-    Ok(())
+fn roll_junction(rt: &impl Abort, dice: &mut Dice, text: &mut String) {
+    let is_and = dice.roll(2) == 0;
+    push_text(rt, text, if is_and { ") && (" } else { ") || (" });
 }
 
 // A variable, mostly behind an action, and the junction after it.
-fn roll_variable(dice: &mut Dice, text: &mut String, variable: u32) -> Result<(), AllocError>
+fn roll_variable(rt: &impl Abort, dice: &mut Dice, text: &mut String, variable: u32)
     requires { variable < 6 }
 {
-    text.push_str("(")?;
-    let is_bare = dice.roll(4) == 0;
-    text.push_str(if is_bare {
-        "("
+    push_text(rt, text, "(");
+    if dice.roll(4) == 0 {
+        push_text(rt, text, "(");
     } else {
-        HEADS[dice.roll(5) as usize]
-    })?;
-    text.push_str(NAMES[variable as usize])?;
-    text.push_str(")")?;
-    roll_junction(dice, text)
+        push_text(rt, text, HEADS[dice.roll(5) as usize]);
+    }
+    push_text(rt, text, NAMES[variable as usize]);
+    push_text(rt, text, ")");
+    roll_junction(rt, dice, text);
+}
+
+// So many binders that alternate, the first by a number that is even or odd.
+fn push_binders(rt: &impl Abort, text: &mut String, first: u32, binders: u32)
+    requires { binders ≤ 6 }
+{
+    for binder in 0..binders {
+        let is_least = first.wrapping_add(binder) % 2 == 0;
+        push_text(rt, text, if is_least { "mu " } else { "nu " });
+        push_text(rt, text, NAMES[binder as usize]);
+        push_text(rt, text, ". (");
+    }
+}
+
+// The variables of so many binders.
+fn roll_variables(rt: &impl Abort, dice: &mut Dice, text: &mut String, binders: u32)
+    requires { binders ≤ 6 }
+{
+    for binder in 0..binders {
+        roll_variable(rt, dice, text, binder);
+    }
+}
+
+// Some operands, and the last one.
+fn roll_operands(rt: &impl Abort, dice: &mut Dice, text: &mut String, binders: u32) {
+    for _ in 0..MORE {
+        push_text(rt, text, "(");
+        roll_leaf(rt, dice, text, binders);
+        roll_junction(rt, dice, text);
+    }
+    roll_leaf(rt, dice, text, binders);
 }
 
 // So many binders that alternate, or one more, around the variables of all of them and some operands.
-fn roll_nested(alloc: Global, dice: &mut Dice, least: u32) -> Result<String, AllocError>
+fn roll_nested(rt: &(impl Abort + AllocGlobal), dice: &mut Dice, least: u32) -> String
     requires { least < 6 }
 {
     let binders = least + dice.roll(2);
     let first = dice.roll(2);
-    let mut text = String::new(alloc);
-    for binder in 0..binders {
-        text.push_str(if (first + binder) % 2 == 0 {
-            "mu "
-        } else {
-            "nu "
-        })?;
-        text.push_str(NAMES[binder as usize])?;
-        text.push_str(". (")?;
-    }
-    for binder in 0..binders {
-        roll_variable(dice, &mut text, binder)?;
-    }
-    for _ in 0..MORE {
-        text.push_str("(")?;
-        roll_leaf(dice, &mut text, binders)?;
-        roll_junction(dice, &mut text)?;
-    }
-    roll_leaf(dice, &mut text, binders)?;
-    for _ in 0..2 * binders + MORE {
-        text.push_str(")")?;
-    }
-    Ok(text)
+    let mut text = String::new(rt.alloc());
+    push_binders(rt, &mut text, first, binders);
+    roll_variables(rt, dice, &mut text, binders);
+    roll_operands(rt, dice, &mut text, binders);
+    push_ends(rt, &mut text, 2 * binders + MORE);
+    text
 }
 
 fn roll_nested_question(
@@ -108,79 +123,95 @@ fn roll_nested_question(
     requires states { 0 < states }
     requires binders { least < 6 }
 {
-    let system = roll_system(rt.alloc(), dice, states).expect(rt, "memory");
-    let text = roll_nested(rt.alloc(), dice, least).expect(rt, "memory");
-    question_of(rt, &system, &text)
+    let system = roll_system(rt, dice, states);
+    let text = roll_nested(rt, dice, least);
+    let question = question_of(rt, &system, &text);
+    drop(text);
+    drop(system);
+    question
 }
 
-// Counts a guess that left nothing to lift. All tables are as lifting leaves them.
+// Whether the least table of a game is guessed as a whole.
+fn is_guessed<G: Guess>(rt: &impl AllocGlobal, game: &Game, guess: &G) -> bool {
+    settled_by_guess(rt.alloc(), game, guess).is_some()
+}
+
+// Counts a guess that left nothing to lift, if there is one. All tables are as lifting leaves them.
 fn count(
     rt: &(impl Abort + AllocGlobal),
     game: &Game,
-    guess: &Claims<'_>,
-    mut tally: Tally,
-) -> Tally {
-    if ends_alike(rt, game, guess).whole {
-        tally.claimed = tally.claimed.saturating_add(1);
+    guess: &Option<Claims<'_>>,
+    tally: &mut Tally,
+) {
+    if let Some(guess) = guess {
+        if ends_alike(rt, game, guess).whole {
+            tally.claimed = tally.claimed.saturating_add(1);
+        }
+        if is_guessed(rt, game, guess) {
+            tally.proposed = tally.proposed.saturating_add(1);
+        }
     }
-    if settled_by_guess(rt.alloc(), game, guess).is_some() {
-        tally.proposed = tally.proposed.saturating_add(1);
-    }
-    tally
+}
+
+// Enough guesses left nothing to lift by claims, or else the test ends and tells how many did.
+fn tallied(rt: &impl Abort, tally: Tally, least: u32) {
+    assert!(rt;
+        tally.claimed >= least,
+        "{} by claims, {} as proposals",
+        tally.claimed,
+        tally.proposed
+    );
+}
+
+// Counts the guess of a question's game.
+fn count_of(rt: &(impl Abort + AllocGlobal), question: &Question, tally: &mut Tally) {
+    let guess = claims(rt, question);
+    count(rt, &question.game, &guess, tally);
+    drop(guess);
 }
 
 #[test]
 fn nested_guesses_and_lifting_alone_end_alike(rt: HostRuntime) {
     let mut dice = Dice::new(23);
-    let mut tally = Tally {
-        claimed: 0,
-        proposed: 0,
-    };
+    let mut tally = NONE_YET;
     for _ in 0..QUESTIONS {
         let states = 1 + dice.roll(20);
         let question = roll_nested_question(&rt, &mut dice, states, 3);
-        let guess = Claims::of(rt.alloc(), &question.lts, &question.form).expect(&rt, "memory");
-        let Some(guess) = guess else {
-            continue;
-        };
-        tally = count(&rt, &question.game, &guess, tally);
+        count_of(&rt, &question, &mut tally);
+        drop(question);
     }
-    assert!(rt;
-        tally.claimed >= LEAST_WHOLE,
-        "{} by claims, {} as proposals",
-        tally.claimed,
-        tally.proposed
-    );
+    tallied(&rt, tally, LEAST_WHOLE);
+}
+
+// Counts the guess of the dual of a question's game, where there is one.
+fn count_of_dual(rt: &(impl Abort + AllocGlobal), question: &Question, tally: &mut Tally) {
+    if let Some(turned) = dual_of(rt, &question.game) {
+        let guess = claims_of_dual(rt, question);
+        count(rt, &turned, &guess, tally);
+        drop(guess);
+        drop(turned);
+    }
 }
 
 #[test]
 fn nested_guesses_of_duals_and_lifting_alone_end_alike(rt: HostRuntime) {
     let mut dice = Dice::new(29);
-    let mut tally = Tally {
-        claimed: 0,
-        proposed: 0,
-    };
+    let mut tally = NONE_YET;
     for _ in 0..QUESTIONS {
         let states = 1 + dice.roll(8);
         let question = roll_nested_question(&rt, &mut dice, states, 3);
-        let guess = Claims::of_dual(rt.alloc(), &question.lts, &question.form);
-        let guess = guess.expect(&rt, "memory");
-        let (Some(turned), Some(guess)) = (dual_of(&rt, &question.game), guess) else {
-            continue;
-        };
-        tally = count(&rt, &turned, &guess, tally);
+        count_of_dual(&rt, &question, &mut tally);
+        drop(question);
     }
-    assert!(rt;
-        tally.claimed >= LEAST_WHOLE_DUALS,
-        "{} by claims, {} as proposals",
-        tally.claimed,
-        tally.proposed
-    );
+    tallied(&rt, tally, LEAST_WHOLE_DUALS);
 }
 
-// Whether the least table of a game is guessed as a whole.
-fn is_guessed(rt: &impl AllocGlobal, game: &Game, guess: &Option<Claims<'_>>) -> bool {
-    settled_by_guess(rt.alloc(), game, guess).is_some()
+// Whether what is claimed of a question's game is good as a whole.
+fn is_good(rt: &(impl Abort + AllocGlobal), question: &Question) -> bool {
+    let guess = claims(rt, question);
+    let is_good = is_guessed(rt, &question.game, &guess);
+    drop(guess);
+    is_good
 }
 
 #[test]
@@ -189,18 +220,33 @@ fn guesses_of_five_and_six_binders_are_good(rt: HostRuntime) {
     let mut good = 0_u32;
     for _ in 0..DEEP_QUESTIONS {
         let states = 1 + dice.roll(20);
-        let Question {
-            lts,
-            form,
-            game,
-            ..
-        } = roll_nested_question(&rt, &mut dice, states, 5);
-        let guess = Claims::of(rt.alloc(), &lts, &form).expect(&rt, "memory");
-        if is_guessed(&rt, &game, &guess) {
+        let question = roll_nested_question(&rt, &mut dice, states, 5);
+        if is_good(&rt, &question) {
             good = good.saturating_add(1);
         }
+        drop(question);
     }
-    assert!(rt; good >= LEAST_DEEP, "{good}");
+    counted(&rt, good, LEAST_DEEP);
+}
+
+// Whether what is claimed of the dual of a question's game, which is this, is good as a whole.
+fn is_good_guess_of(rt: &(impl Abort + AllocGlobal), question: &Question, turned: &Game) -> bool {
+    let guess = claims_of_dual(rt, question);
+    let is_good = is_guessed(rt, turned, &guess);
+    drop(guess);
+    is_good
+}
+
+// The same where there is a dual.
+fn is_good_of_dual(rt: &(impl Abort + AllocGlobal), question: &Question) -> bool {
+    match dual_of(rt, &question.game) {
+        Some(turned) => {
+            let is_good = is_good_guess_of(rt, question, &turned);
+            drop(turned);
+            is_good
+        }
+        None => false,
+    }
 }
 
 #[test]
@@ -209,60 +255,63 @@ fn guesses_of_duals_of_five_and_six_binders_are_good(rt: HostRuntime) {
     let mut good = 0_u32;
     for _ in 0..DEEP_QUESTIONS {
         let states = 1 + dice.roll(20);
-        let Question {
-            lts,
-            form,
-            game,
-            ..
-        } = roll_nested_question(&rt, &mut dice, states, 5);
-        let guess = Claims::of_dual(rt.alloc(), &lts, &form).expect(&rt, "memory");
-        let Some(turned) = dual_of(&rt, &game) else {
-            continue;
-        };
-        if is_guessed(&rt, &turned, &guess) {
+        let question = roll_nested_question(&rt, &mut dice, states, 5);
+        if is_good_of_dual(&rt, &question) {
             good = good.saturating_add(1);
         }
+        drop(question);
     }
-    assert!(rt; good >= LEAST_DEEP_DUALS, "{good}");
+    counted(&rt, good, LEAST_DEEP_DUALS);
 }
 
 // A path of so many states.
-fn path(alloc: Global, states: u32) -> Result<String, AllocError>
-    requires { (0 < states) × (states < 1000) }
+fn path(rt: &(impl Abort + AllocGlobal), states: u32) -> String
+    requires { 0 < states }
 {
-    let mut text = format!(in alloc; "des (0,{},{states})\n", states - 1)?;
+    let mut text = system_head(rt, states - 1, states);
     for state in 1..states {
-        write!(text, "({},\"a\",{state})\n", state - 1)?;
+        push_step(rt, &mut text, state - 1, "a", state);
     }
-    Ok(text)
+    text
 }
 
 // Twelve binders that alternate. At each state of a path the innermost one steps to the next, up to where there is none.
 const TWELVE: &str =
     "mu A. nu B. mu C. nu D. mu E. nu F. mu G. nu H. mu I. nu J. mu K. nu L. (([true]L && <true>true) && (<true>true || (A && B && C && D && E && F && G && H && I && J && K)))";
 
-// Whether the dual's least table on a path is guessed as a whole. Whether it is or not, it is as lifting leaves it.
+// The table that is guessed has to be as lifting alone leaves it.
+fn is_guessed_as_lifted<G: Guess>(rt: &(impl Abort + AllocGlobal), game: &Game, guess: &G) {
+    let solved = solved_by(rt, game, guess);
+    is_as_lifted(rt, game, &solved);
+    drop(solved);
+}
+
+// Whether the dual's least table is guessed as a whole. Whether it is or not, it is as lifting leaves it.
+fn is_dual_guessed(rt: &(impl Abort + AllocGlobal), question: &Question) -> bool {
+    let turned = dual_of(rt, &question.game).expect(rt, "a dual");
+    let guess = claims_of_dual(rt, question);
+    is_guessed_as_lifted(rt, &turned, &guess);
+    let is_guessed = is_guessed(rt, &turned, &guess);
+    drop(guess);
+    drop(turned);
+    is_guessed
+}
+
+// The same on a path.
 fn is_path_guessed(rt: &(impl Abort + AllocGlobal + Threads + Sync), states: u32) -> bool
-    requires { (0 < states) × (states < 1000) }
+    requires { 0 < states }
 {
-    let system = path(rt.alloc(), states).expect(rt, "memory");
-    let Question {
-        lts,
-        form,
-        game,
-        ..
-    } = question_of(rt, &system, TWELVE);
-    let guess = Claims::of_dual(rt.alloc(), &lts, &form).expect(rt, "memory");
-    let turned = dual_of(rt, &game).expect(rt, "a dual");
-    let solved = solve_one_by(rt.alloc(), &turned, &guess, &Silent).expect(rt, "memory");
-    let lifted = lifted_alone(rt.alloc(), &turned).expect(rt, "memory");
-    assert!(rt; is_same(&turned, &solved, &lifted));
-    is_guessed(rt, &turned, &guess)
+    let system = path(rt, states);
+    let question = question_of(rt, &system, TWELVE);
+    let is_guessed = is_dual_guessed(rt, &question);
+    drop(question);
+    drop(system);
+    is_guessed
 }
 
 // Seven counts share a word. Along a short path all steps fit their part of it, and along a long one they don't.
 #[test]
 fn counts_that_fit_no_word_are_left_to_lifting(rt: HostRuntime) {
-    assert!(rt; is_path_guessed(&rt, 60));
-    assert!(rt; !is_path_guessed(&rt, 600));
+    holds!(&rt; is_path_guessed(&rt, 60));
+    holds!(&rt; !is_path_guessed(&rt, 600));
 }

@@ -2,27 +2,17 @@
 // proved, and so is that the table is the same where a search may look at nothing; that it finds all that Odd wins, and that its claims are good,
 // is not.
 
-ghost use Rattle.std.specs.Prelude.{◌≡◌, ◌<◌, ◌≤◌, IfOk};
+ghost use Rattle.std.specs.Prelude.{◌≡◌};
 
+use crate::common::{counted, holds_for, lifted_alone, random_game, solved};
 use certify::decide::certified_winners;
 use game::graph::Game;
-use lts::error::Memory;
-use measures::settle::{first_table, settle, solve_one, solve_one_within};
-use measures::table::{PlainTable, Settled, opening};
+use measures::settle::{first_table, solve_one_within};
+use measures::table::{PlainTable, Settled};
 use progress::observer::Silent;
-use samples::dice::{Dice, roll_game};
+use samples::dice::Dice;
 use search::effort::Effort;
-use std::alloc::Global;
 use std::process::Abort;
-
-/// The least progress table, from the opening one by lifting alone.
-pub fn lifted_alone(alloc: Global, game: &Game) -> Result<PlainTable, Memory>
-    ensures { IfOk result (λ t. t.game ≡ game.now) }
-{
-    let mut table = opening(alloc, game)?;
-    settle(game, &mut table);
-    Ok(table)
-}
 
 /// Whether two tables have the same measure at each vertex.
 pub fn is_same(game: &Game, settled: &Settled, table: &PlainTable) -> bool
@@ -39,7 +29,12 @@ pub fn is_same(game: &Game, settled: &Settled, table: &PlainTable) -> bool
 
 // Whether some count can go above one. Where none can, lifting takes no time, and nothing is claimed.
 fn can_climb(game: &Game) -> bool {
-    (0..16).any(|half| game.count(2 * half + 1) > 1)
+    for half in 0..16 {
+        if game.count(2 * half + 1) > 1 {
+            return true;
+        }
+    }
+    false
 }
 
 // Whether the claims have raised just those vertices to top that Odd wins.
@@ -55,47 +50,88 @@ fn are_claimed(game: &Game, first: &PlainTable, solved: &Settled) -> bool
     true
 }
 
-// Whether evidence was guessed that the checker accepts, and says that Even wins where the table isn't top.
-fn is_certified(rt: &(impl Abort + AllocGlobal), game: &Game, solved: &Settled) -> bool
+// Whether marks say that Even wins where the table isn't top.
+fn are_marks(game: &Game, solved: &Settled, marks: &[bool]) -> bool
     requires { solved.now.game ≡ game.now }
 {
-    let marks = certified_winners(rt.alloc(), game, None).expect(rt, "good evidence");
     for v in 0..game.vertices() {
-        if marks.get(v as usize) != Some(&!solved.is_top(v)) {
+        if is_marked(marks, v) == solved.is_top(v) {
             return false;
         }
     }
-    true
+    marks.len() == game.vertices() as usize
 }
 
-// Whether lifting alone, and lifting where a search may look at nothing, leave this table, and evidence says the same.
+/// Whether there is a mark at a vertex.
+pub fn is_marked(marks: &[bool], v: u32) -> bool {
+    let place = v as usize;
+    place < marks.len() && marks[place]
+}
+
+/// The vertices that Even wins, by evidence that was guessed and that the checker accepts.
+pub fn certified(rt: &(impl Abort + AllocGlobal), game: &Game) -> Vec<bool> {
+    certified_winners(rt.alloc(), game, None).expect(rt, "good evidence")
+}
+
+// The same table, where a search may look at nothing.
+fn unsearched(rt: &(impl Abort + AllocGlobal), game: &Game) -> Settled
+    ensures { result.game ≡ game.now }
+{
+    solve_one_within(rt.alloc(), game, Effort::Nothing, &Silent).expect(rt, "memory")
+}
+
+// Whether lifting alone, and lifting where a search may look at nothing, leave this table.
+fn is_lifted(rt: &(impl Abort + AllocGlobal), game: &Game, solved: &Settled) -> bool
+    requires { solved.now.game ≡ game.now }
+{
+    let lifted = lifted_alone(rt, game);
+    let unsearched = unsearched(rt, game);
+    let are_same = is_same(game, solved, &lifted) && is_same(game, &unsearched, &lifted);
+    drop(unsearched);
+    drop(lifted);
+    are_same
+}
+
+// Whether all ways leave this table, and evidence says the same.
 fn ends_alike(rt: &(impl Abort + AllocGlobal), game: &Game, solved: &Settled) -> bool
     requires { solved.now.game ≡ game.now }
 {
-    let lifted = lifted_alone(rt.alloc(), game).expect(rt, "memory");
-    let unsearched = solve_one_within(rt.alloc(), game, Effort::Nothing, &Silent).expect(
-        rt, "memory",
-    );
-    let are_same = is_same(game, solved, &lifted) && is_same(game, &unsearched, &lifted);
-    are_same && is_certified(rt, game, solved)
+    let marks = certified(rt, game);
+    let are_marks = are_marks(game, solved, marks.as_slice());
+    drop(marks);
+    are_marks && is_lifted(rt, game, solved)
 }
 
-// How many of so many games at random have claims that leave nothing to lift. All end alike.
+// The table after a search, before it is lifted.
+fn searched(rt: &(impl Abort + AllocGlobal), game: &Game) -> PlainTable
+    ensures { result.game ≡ game.now }
+{
+    first_table(rt.alloc(), game).expect(rt, "memory")
+}
+
+// Whether claims leave nothing to lift. They raise what Odd wins to top, and all ways end alike.
+fn is_whole(rt: &(impl Abort + AllocGlobal), game: &Game, number: u32) -> bool {
+    let first = searched(rt, game);
+    let solved = solved(rt, game);
+    let is_found = !can_climb(game) || are_claimed(game, &first, &solved);
+    holds_for(rt, is_found && ends_alike(rt, game, &solved), number);
+    let is_whole = is_same(game, &solved, &first);
+    drop(solved);
+    drop(first);
+    is_whole
+}
+
+// How many of so many games at random have claims that leave nothing to lift.
 fn count_whole(rt: &(impl Abort + AllocGlobal), dice: &mut Dice, games: u32) -> u32 {
     let mut whole = 0_u32;
     for number in 0..games {
         let vertices = 1 + dice.roll(16);
         let priorities = 2 + dice.roll(11);
-        let game = roll_game(rt, dice, vertices, priorities)
-            .expect(rt, "memory")
-            .expect(rt, "a game");
-        let first = first_table(rt.alloc(), &game).expect(rt, "memory");
-        let solved = solve_one(rt.alloc(), &game).expect(rt, "memory");
-        let is_found = !can_climb(&game) || are_claimed(&game, &first, &solved);
-        assert!(rt; is_found && ends_alike(rt, &game, &solved), "{number}");
-        if is_same(&game, &solved, &first) {
+        let game = random_game(rt, dice, vertices, priorities);
+        if is_whole(rt, &game, number) {
             whole = whole.saturating_add(1);
         }
+        drop(game);
     }
     whole
 }
@@ -103,11 +139,11 @@ fn count_whole(rt: &(impl Abort + AllocGlobal), dice: &mut Dice, games: u32) -> 
 #[test]
 fn claims_and_lifting_alone_end_alike(rt: HostRuntime) {
     let whole = count_whole(&rt, &mut Dice::new(20), 5_000);
-    assert!(rt; whole >= 4_850, "{whole}");
+    counted(&rt, whole, 4_850);
 }
 
 #[test]
 fn claims_and_lifting_alone_end_alike_again(rt: HostRuntime) {
     let whole = count_whole(&rt, &mut Dice::new(21), 5_000);
-    assert!(rt; whole >= 4_850, "{whole}");
+    counted(&rt, whole, 4_850);
 }

@@ -1,114 +1,201 @@
 // Rankings of arenas, made by hand: which are good, and what they tell.
 
+use crate::common::{formula, holds, normal_form, system};
 use columns::column::{Column, Columns, Counted, Halves};
 use forms::form::Normal;
+use lts::Lts;
 use rankings::sheet::Sheet;
 use rankings::winners::root_winners;
-use samples::texts::{form_of, system_read};
-use std::alloc::{AllocError, Global};
+use std::process::Abort;
 use std::thread::Threads;
 
 // From state 0 to state 1 by `a`; from there nothing goes on. State 2 leads to itself by `b`.
 const SYSTEM: &str = "des (0,2,3)\n(0,\"a\",1)\n(2,\"b\",2)\n";
 
 // The columns as they are written, by node.
-type Rows<'a> = &'a [[u64; 3]];
+type Rows = &'static [[u64; 3]];
 
-fn columns_of(alloc: Global, rows: Rows<'_>) -> Result<Columns, AllocError> {
-    let mut nodes = Vec::new(alloc);
-    let mut words = Vec::new(alloc);
-    for (place, row) in (0..u32::MAX).zip(rows) {
-        nodes.push(Column::Listed(place))?;
-        words.push(Vec::from_slice(alloc, row.as_slice())?)?;
+// The states that Even wins by a ranking, if it is a good one.
+type Found = Option<[bool; 3]>;
+
+// The columns of a ranking for a formula, the shifts of both players, and what it tells.
+type Case = (&'static str, Rows, &'static [u32], &'static [u32], Found);
+
+fn list_of(rt: &(impl Abort + AllocGlobal), numbers: &[u32]) -> Vec<u32> {
+    Vec::from_slice(rt.alloc(), numbers).expect(rt, "memory")
+}
+
+fn push_words(rt: &(impl Abort + AllocGlobal), words: &mut Vec<Vec<u64>>, row: &[u64]) {
+    let row = Vec::from_slice(rt.alloc(), row).expect(rt, "memory");
+    words.push(row).expect(rt, "memory");
+}
+
+// The words of each node's column.
+fn push_rows(rt: &(impl Abort + AllocGlobal), words: &mut Vec<Vec<u64>>, rows: Rows) {
+    for row in rows {
+        push_words(rt, words, row.as_slice());
     }
-    Ok(Columns {
+}
+
+// So many columns, each of which is a list of its own.
+fn push_listed(rt: &impl Abort, nodes: &mut Vec<Column>, count: usize) {
+    let mut place = 0_u32;
+    for _ in 0..count {
+        nodes.push(Column::Listed(place)).expect(rt, "memory");
+        place = place.wrapping_add(1);
+    }
+}
+
+fn columns_of(rt: &(impl Abort + AllocGlobal), rows: Rows) -> Columns {
+    let mut nodes = Vec::new(rt.alloc());
+    let mut words = Vec::new(rt.alloc());
+    push_listed(rt, &mut nodes, rows.len());
+    push_rows(rt, &mut words, rows);
+    Columns {
         nodes,
-        marks: Vec::new(alloc),
-        counts: Vec::new(alloc),
+        marks: Vec::new(rt.alloc()),
+        counts: Vec::new(rt.alloc()),
         words,
-    })
-}
-
-fn sheet_of(alloc: Global, rows: Rows<'_>, evens: &[u32], odds: &[u32]) -> Option<Sheet> {
-    let columns = columns_of(alloc, rows).ok()?;
-    let evens = Vec::from_slice(alloc, evens).ok()?;
-    let odds = Vec::from_slice(alloc, odds).ok()?;
-    Sheet::of(columns, evens, odds)
-}
-
-// The winners that a sheet tells of the game of a formula, if it is a good ranking; one letter for each state.
-fn told(
-    rt: &(impl Threads + AllocGlobal + Sync),
-    formula: &str,
-    rows: Rows<'_>,
-    evens: &[u32],
-    odds: &[u32],
-) -> Option<[bool; 3]> {
-    let sheet = sheet_of(rt.alloc(), rows, evens, odds)?;
-    told_by(rt, formula, &sheet)
-}
-
-fn told_by(
-    rt: &(impl Threads + AllocGlobal + Sync),
-    formula: &str,
-    sheet: &Sheet,
-) -> Option<[bool; 3]> {
-    let alloc = rt.alloc();
-    let system = system_read(alloc, SYSTEM).ok()?;
-    let form = form_of(alloc, formula)?;
-    let marks = root_winners(rt, alloc, &system, &form, sheet, 1)?;
-    match marks.as_slice() {
-        [first, second, third] => Some([*first, *second, *third]),
-        _ => None,
     }
+}
+
+fn winners(
+    rt: &(impl Threads + AllocGlobal + Sync),
+    lts: &Lts,
+    form: &Normal,
+    sheet: &Sheet,
+) -> Option<Vec<bool>> {
+    root_winners(rt, rt.alloc(), lts, form, sheet, 1)
+}
+
+// Whether marks are as they are found.
+fn is_found(marks: &Option<Vec<bool>>, found: &Found) -> bool {
+    match (marks, found) {
+        (Some(marks), Some(found)) => marks.as_slice() == found.as_slice(),
+        (None, None) => true,
+        _ => false,
+    }
+}
+
+// Whether a sheet tells this of the game of a formula.
+fn tells(
+    rt: &(impl Abort + Threads + AllocGlobal + Sync),
+    text: &str,
+    sheet: &Sheet,
+    found: &Found,
+) -> bool {
+    let lts = system(rt, SYSTEM);
+    let formula = formula(rt, text);
+    let form = normal_form(rt, &formula);
+    let marks = winners(rt, &lts, &form, sheet);
+    drop(form);
+    drop(formula);
+    drop(lts);
+    let is_found = is_found(&marks, found);
+    drop(marks);
+    is_found
+}
+
+// What a sheet tells of the game of a formula is this. No sheet tells nothing.
+fn is_told(
+    rt: &(impl Abort + Threads + AllocGlobal + Sync),
+    text: &str,
+    sheet: &Option<Sheet>,
+    found: &Found,
+) {
+    let is_so = match sheet {
+        Some(sheet) => tells(rt, text, sheet, found),
+        None => found.is_none(),
+    };
+    holds!(rt; is_so, text);
+}
+
+fn is_ranked(rt: &(impl Abort + Threads + AllocGlobal + Sync), case: &Case) {
+    let (text, rows, evens, odds, found) = case;
+    let columns = columns_of(rt, rows);
+    let sheet = Sheet::of(columns, list_of(rt, evens), list_of(rt, odds));
+    is_told(rt, text, &sheet, found);
+    drop(sheet);
 }
 
 // One step by `a`: where there is none the diamond leads to the false sink, whose number is 1, and has to be above it where the mark doesn't count.
+static DIAMONDS: [Case; 4] = [
+    (
+        "<a>true",
+        &[[0, 3, 3], [0, 0, 0]],
+        &[0],
+        &[1],
+        Some([true, false, false]),
+    ),
+    ("<a>true", &[[0, 1, 3], [0, 0, 0]], &[0], &[1], None),
+    ("<a>true", &[[0, 0, 3], [0, 0, 0]], &[0], &[1], None),
+    ("<a>true", &[[3, 3, 3], [0, 0, 0]], &[0], &[1], None),
+];
+
 #[test]
 fn a_diamond_without_a_step_is_odds(rt: HostRuntime) {
-    let rows = [[0, 3, 3], [0, 0, 0]];
-    let found = told(&rt, "<a>true", &rows, &[0], &[1]);
-    assert!(rt; found == Some([true, false, false]));
-    assert!(rt; told(&rt, "<a>true", &[[0, 1, 3], [0, 0, 0]], &[0], &[1]) == None);
-    assert!(rt; told(&rt, "<a>true", &[[0, 0, 3], [0, 0, 0]], &[0], &[1]) == None);
-    assert!(rt; told(&rt, "<a>true", &[[3, 3, 3], [0, 0, 0]], &[0], &[1]) == None);
+    for case in &DIAMONDS {
+        is_ranked(&rt, case);
+    }
 }
 
 // A box without a step leads to the true sink, and is Even's.
+static BOXES: [Case; 3] = [
+    ("[a]false", &[[3, 0, 0], [3, 3, 3]], &[0], &[1], None),
+    (
+        "[a]false",
+        &[[5, 0, 0], [3, 3, 3]],
+        &[0],
+        &[1],
+        Some([false, true, true]),
+    ),
+    ("[a]false", &[[5, 5, 0], [3, 3, 3]], &[0], &[1], None),
+];
+
 #[test]
 fn a_box_without_a_step_is_evens(rt: HostRuntime) {
-    let rows = [[3, 0, 0], [3, 3, 3]];
-    assert!(rt; told(&rt, "[a]false", &rows, &[0], &[1]) == None);
-    let rows = [[5, 0, 0], [3, 3, 3]];
-    assert!(rt; told(&rt, "[a]false", &rows, &[0], &[1]) == Some([false, true, true]));
-    assert!(rt; told(&rt, "[a]false", &[[5, 5, 0], [3, 3, 3]], &[0], &[1]) == None);
+    for case in &BOXES {
+        is_ranked(&rt, case);
+    }
 }
 
 // The least fixpoint that only goes on is Odd's everywhere, the greatest is Even's where a step follows a step for ever.
+static FIXPOINTS: [Case; 4] = [
+    (
+        "mu X. <true>X",
+        &[[3, 3, 3], [7, 7, 7], [5, 5, 5]],
+        &[0],
+        &[1, 4],
+        Some([false, false, false]),
+    ),
+    (
+        "mu X. <true>X",
+        &[[0, 0, 0], [0, 0, 0], [0, 0, 0]],
+        &[0],
+        &[1, 4],
+        None,
+    ),
+    (
+        "nu X. <true>X",
+        &[[11, 5, 0], [9, 3, 0], [13, 7, 0]],
+        &[0],
+        &[1],
+        Some([false, false, true]),
+    ),
+    (
+        "nu X. <true>X",
+        &[[0, 0, 0], [0, 0, 0], [0, 0, 0]],
+        &[0],
+        &[1],
+        None,
+    ),
+];
+
 #[test]
 fn fixpoints_that_only_go_on(rt: HostRuntime) {
-    let least = [[3, 3, 3], [7, 7, 7], [5, 5, 5]];
-    assert!(rt; told(&rt, "mu X. <true>X", &least, &[0], &[1, 4]) == Some([false, false, false]));
-    assert!(rt;
-        told(
-            &rt,
-            "mu X. <true>X",
-            &[[0, 0, 0], [0, 0, 0], [0, 0, 0]],
-            &[0],
-            &[1, 4]
-        ) == None
-    );
-    let greatest = [[11, 5, 0], [9, 3, 0], [13, 7, 0]];
-    assert!(rt; told(&rt, "nu X. <true>X", &greatest, &[0], &[1]) == Some([false, false, true]));
-    assert!(rt;
-        told(
-            &rt,
-            "nu X. <true>X",
-            &[[0, 0, 0], [0, 0, 0], [0, 0, 0]],
-            &[0],
-            &[1]
-        ) == None
-    );
+    for case in &FIXPOINTS {
+        is_ranked(&rt, case);
+    }
 }
 
 // A node's marks of the states that Odd wins, and the bases of both players. Even counts by twos.
@@ -135,59 +222,91 @@ fn halves(marks: u32, row: Row) -> Halves {
     }
 }
 
-// Columns that count by one list: one at the first state, none at the others.
-fn counted_columns(alloc: Global, rows: &[Row]) -> Result<Columns, AllocError> {
-    let mut nodes = Vec::new(alloc);
-    let mut marks = Vec::new(alloc);
-    for (place, row) in (0..u32::MAX).zip(rows) {
-        nodes.push(Column::Won(halves(place, *row)))?;
-        marks.push(row.0)?;
+// Nodes that are won as these rows say.
+fn push_won(rt: &impl Abort, nodes: &mut Vec<Column>, rows: &[Row]) {
+    let mut place = 0_u32;
+    for row in rows {
+        let column = Column::Won(halves(place, *row));
+        nodes.push(column).expect(rt, "memory");
+        place = place.wrapping_add(1);
     }
-    let mut counts = Vec::new(alloc);
-    counts.push(Vec::from_slice(alloc, &[1, 0, 0])?)?;
-    Ok(Columns {
+}
+
+fn push_marks(rt: &impl Abort, marks: &mut Vec<u64>, rows: &[Row]) {
+    for (odds, _, _) in rows {
+        marks.push(*odds).expect(rt, "memory");
+    }
+}
+
+// A list that counts one at the first state, none at the others.
+fn push_counts(rt: &(impl Abort + AllocGlobal), counts: &mut Vec<Vec<u32>>) {
+    let list = list_of(rt, &[1, 0, 0]);
+    counts.push(list).expect(rt, "memory");
+}
+
+// Columns that count by one list.
+fn counted_columns(rt: &(impl Abort + AllocGlobal), rows: &[Row]) -> Columns {
+    let mut nodes = Vec::new(rt.alloc());
+    let mut marks = Vec::new(rt.alloc());
+    let mut counts = Vec::new(rt.alloc());
+    push_won(rt, &mut nodes, rows);
+    push_marks(rt, &mut marks, rows);
+    push_counts(rt, &mut counts);
+    Columns {
         nodes,
         marks,
         counts,
-        words: Vec::new(alloc),
-    })
+        words: Vec::new(rt.alloc()),
+    }
 }
 
 // Where no way is endless a box is won by how far the end is, and the binder above it by one more; at the last state by nobody's end.
-fn told_by_counts(rt: &(impl Threads + AllocGlobal + Sync), rows: &[Row]) -> Option<[bool; 3]> {
-    let alloc = rt.alloc();
-    let columns = counted_columns(alloc, rows).ok()?;
-    let evens = Vec::from_slice(alloc, &[0, 1]).ok()?;
-    let odds = Vec::from_slice(alloc, &[1, 4]).ok()?;
-    let sheet = Sheet::of(columns, evens, odds)?;
-    told_by(rt, "mu X. [true]X", &sheet)
+fn is_counted(rt: &(impl Abort + Threads + AllocGlobal + Sync), rows: &[Row], found: &Found) {
+    let columns = counted_columns(rt, rows);
+    let sheet = Sheet::of(columns, list_of(rt, &[0, 1]), list_of(rt, &[1, 4]));
+    is_told(rt, "mu X. [true]X", &sheet, found);
+    drop(sheet);
 }
 
 // A binder, its operand and its variable count by the same list: it is told from their bases, marks and units whether each is ranked.
+// Two are good; of the others the first stays, and then one rises, climbs, lies and wraps.
+static COUNTS: [(&[Row], Found); 7] = [
+    (
+        &[(4, 2, 3), (4, 0, 7), (4, 2, 5)],
+        Some([true, true, false]),
+    ),
+    (
+        &[(4, 4, 3), (4, 2, 7), (4, 4, 5)],
+        Some([true, true, false]),
+    ),
+    (&[(4, 0, 3), (4, 0, 7), (4, 0, 5)], None),
+    (&[(4, 2, 3), (4, 0, 7), (4, 0, 5)], None),
+    (&[(4, 2, 3), (4, 0, 7), (4, 2, 3)], None),
+    (&[(0, 2, 3), (4, 0, 7), (4, 2, 5)], None),
+    (
+        &[(4, u64::MAX - 1, 3), (4, 0, 7), (4, u64::MAX - 1, 5)],
+        None,
+    ),
+];
+
 #[test]
 fn nodes_that_count_by_one_list(rt: HostRuntime) {
-    let good = [(4, 2, 3), (4, 0, 7), (4, 2, 5)];
-    assert!(rt; told_by_counts(&rt, &good) == Some([true, true, false]));
-    let more = [(4, 4, 3), (4, 2, 7), (4, 4, 5)];
-    assert!(rt; told_by_counts(&rt, &more) == Some([true, true, false]));
-    let stays = [(4, 0, 3), (4, 0, 7), (4, 0, 5)];
-    assert!(rt; told_by_counts(&rt, &stays) == None);
-    let rises = [(4, 2, 3), (4, 0, 7), (4, 0, 5)];
-    assert!(rt; told_by_counts(&rt, &rises) == None);
-    let climbs = [(4, 2, 3), (4, 0, 7), (4, 2, 3)];
-    assert!(rt; told_by_counts(&rt, &climbs) == None);
-    let lies = [(0, 2, 3), (4, 0, 7), (4, 2, 5)];
-    assert!(rt; told_by_counts(&rt, &lies) == None);
-    let wraps = [(4, u64::MAX - 1, 3), (4, 0, 7), (4, u64::MAX - 1, 5)];
-    assert!(rt; told_by_counts(&rt, &wraps) == None);
+    for (rows, found) in &COUNTS {
+        is_counted(&rt, rows, found);
+    }
 }
 
 // A sheet needs a column for each node and a number for each state, and shifts that don't fall.
+static WRONG: [Case; 4] = [
+    ("<a>true", &[[0, 3, 3]], &[0], &[1], None),
+    ("<a>true && true", &[[0, 3, 3], [0, 0, 0]], &[0], &[1], None),
+    ("<a>true", &[[0, 3, 3], [0, 0, 0]], &[2, 1], &[1], None),
+    ("<a>true", &[[0, 3, 3], [0, 0, 0]], &[0], &[64], None),
+];
+
 #[test]
 fn sheets_of_the_wrong_shape(rt: HostRuntime) {
-    let rows = [[0, 3, 3], [0, 0, 0]];
-    assert!(rt; told(&rt, "<a>true", &rows[..1], &[0], &[1]) == None);
-    assert!(rt; told(&rt, "<a>true && true", &rows, &[0], &[1]) == None);
-    assert!(rt; told(&rt, "<a>true", &rows, &[2, 1], &[1]) == None);
-    assert!(rt; told(&rt, "<a>true", &rows, &[0], &[64]) == None);
+    for case in &WRONG {
+        is_ranked(&rt, case);
+    }
 }

@@ -1,11 +1,12 @@
 // How many threads share a guess.
 
+use crate::common::holds;
 use certify::hands::hands;
 
 #[test]
 fn no_more_threads_work_than_are_asked_for(rt: HostRuntime) {
-    assert!(rt; hands(&rt, 1) == 1);
+    holds!(&rt; hands(&rt, 1) == 1);
     let many = hands(&rt, 64);
-    assert!(rt; 0 < many && many <= 64);
-    assert!(rt; hands(&rt, 0) == 0);
+    holds!(&rt; 0 < many && many <= 64);
+    holds!(&rt; hands(&rt, 0) == 0);
 }

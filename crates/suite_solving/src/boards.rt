@@ -3,6 +3,7 @@
 ghost use Rattle.std.specs.Prelude.{◌≡◌, ◌<◌, length};
 ghost use Rattle.std.specs.Arc.{arc_value};
 
+use crate::common::holds;
 use game::graph::Game;
 use game::name::GameName;
 use game::player::Player;
@@ -37,14 +38,11 @@ fn rises_once<B: Board>(rt: &impl Abort, board: &B, source: &PlainTable)
     };
     let top = source.value(4);
     let before = board.read(&mut seat, 4);
-    assert!(rt; top.is_top() && !before.is_top() && before.counts() == [0].as_slice());
-    assert!(rt; board.raise(&mut seat, 4, &top), "it rises");
-    assert!(rt; board.read(&mut seat, 4).is_top(), "it is read");
-    assert!(rt; !board.raise(&mut seat, 4, &top), "it rises once");
-    assert!(rt;
-        board.own_lift(&mut seat, 4).is_none(),
-        "it is lifted by reads"
-    );
+    holds!(rt; top.is_top() && !before.is_top() && before.counts() == [0].as_slice());
+    holds!(rt; board.raise(&mut seat, 4, &top), "it rises");
+    holds!(rt; board.read(&mut seat, 4).is_top(), "it is read");
+    holds!(rt; !board.raise(&mut seat, 4, &top), "it rises once");
+    holds!(rt; board.own_lift(&mut seat, 4).is_none(), "it is lifted by reads");
     board.last(&mut seat);
 }
 
@@ -69,7 +67,7 @@ fn rises_on<K: GameName, R: Wait + Drop>(
     };
     rises_once(rt, &board, source);
     finish(&board, &game, &mut table);
-    assert!(rt; table.value(4).is_top() && !table.value(2).is_top());
+    holds!(rt; table.value(4).is_top() && !table.value(2).is_top());
 }
 
 // A shard of every second vertex keeps the greater of two measures, and tells whether its own rose.
@@ -79,13 +77,13 @@ fn keeps_the_greater<K: GameName>(rt: &impl Abort, alloc: Global, game: &Game, s
     requires vertex { 4 < length source.now.game.vertices }
 {
     let mut shard = Shard::<K>::new(alloc, game, 0, 2).expect(rt, "memory");
-    assert!(rt; shard.has(4) && !shard.has(3));
+    holds!(rt; shard.has(4) && !shard.has(3));
     let top = source.value(4);
     let low = shard.read(4);
-    assert!(rt; top.is_top() && !low.is_top());
-    assert!(rt; shard.raise(4, &top), "it rises");
-    assert!(rt; !shard.raise(4, &low), "it doesn't fall");
-    assert!(rt; shard.read(4).is_top());
+    holds!(rt; top.is_top() && !low.is_top());
+    holds!(rt; shard.raise(4, &top), "it rises");
+    holds!(rt; !shard.raise(4, &low), "it doesn't fall");
+    holds!(rt; shard.read(4).is_top());
 }
 
 #[test]
@@ -93,7 +91,7 @@ fn a_shard_keeps_the_greater(rt: HostRuntime) {
     let game = shared_game_of(&rt, &DIAMOND).expect(&rt, "a game");
     let mut source = opening(rt.alloc(), &game).expect(&rt, "memory");
     settle(&game, &mut source);
-    assert!(rt; 4 < game.vertices());
+    holds!(&rt; 4 < game.vertices());
     keeps_the_greater::<Brand>(&rt, rt.alloc(), &game, &source)
 }
 
@@ -102,7 +100,7 @@ fn a_vertex_rises_on_one_shard(rt: HostRuntime) {
     let game = shared_game_of(&rt, &DIAMOND).expect(&rt, "a game");
     let mut source = opening(rt.alloc(), &game).expect(&rt, "memory");
     settle(&game, &mut source);
-    assert!(rt; 4 < game.vertices());
+    holds!(&rt; 4 < game.vertices());
     rises_on::<Brand, HostRuntime>(&rt, rt, rt.alloc(), game, &source, 1)
 }
 
@@ -111,6 +109,6 @@ fn a_vertex_rises_on_sixteen_shards(rt: HostRuntime) {
     let game = shared_game_of(&rt, &DIAMOND).expect(&rt, "a game");
     let mut source = opening(rt.alloc(), &game).expect(&rt, "memory");
     settle(&game, &mut source);
-    assert!(rt; 4 < game.vertices());
+    holds!(&rt; 4 < game.vertices());
     rises_on::<Brand, HostRuntime>(&rt, rt, rt.alloc(), game, &source, 16)
 }

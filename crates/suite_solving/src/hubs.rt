@@ -4,6 +4,7 @@
 ghost use Rattle.std.specs.Prelude.{◌≡◌, ◌+◌, ◌<◌, ◌≤◌};
 
 use crate::climbing_workers::{Turns, lifted_over_words};
+use crate::common::holds;
 use game::graph::{Game, GameBuilder};
 use game::player::Player;
 use samples::games::push_row;
@@ -110,9 +111,9 @@ fn what_is_pending_is_given_once_however_often_its_hub_rises(rt: HostRuntime) {
         of_hub: AtomicU64::new(0),
     };
     lifted_over_words(&rt, &game, 2, &gate);
-    assert!(rt; gate.of_hub.load(Ordering::SeqCst) == HUB_TURNS);
-    assert!(rt; gate.turns.of(0) == u64::from(hub.leading));
-    assert!(rt; gate.turns.all() == u64::from(hub.trap() + 1) + HUB_TURNS);
+    holds!(&rt; gate.of_hub.load(Ordering::SeqCst) == HUB_TURNS);
+    holds!(&rt; gate.turns.of(0) == u64::from(hub.leading));
+    holds!(&rt; gate.turns.all() == u64::from(hub.trap() + 1) + HUB_TURNS);
 }
 
 // What the system tells of this process's memory under a name, in kilobytes.

@@ -3,6 +3,7 @@
 
 ghost use Rattle.std.specs.Prelude.{◌≡◌};
 
+use crate::common::holds;
 use game::graph::Game;
 use game::player::Player;
 use measures::measure::Measure;
@@ -144,7 +145,7 @@ fn what_rises_after_it_was_read_gives_its_reader_once_more(rt: HostRuntime) {
     };
     let _ = solve_from(&rt, rt.alloc(), &game, table, board, 2, &order);
     finish(&inner, &game, &mut left);
-    assert!(rt; order.is_over.load(Ordering::SeqCst));
-    assert!(rt; is_settled(&game, &left));
-    assert!(rt; order.turns.load(Ordering::SeqCst) == 2);
+    holds!(&rt; order.is_over.load(Ordering::SeqCst));
+    holds!(&rt; is_settled(&game, &left));
+    holds!(&rt; order.turns.load(Ordering::SeqCst) == 2);
 }

@@ -6,6 +6,8 @@ mod boards;
 #[cfg(test)]
 mod climbing_workers;
 #[cfg(test)]
+mod common;
+#[cfg(test)]
 mod hubs;
 #[cfg(test)]
 mod late_rises;

@@ -3,6 +3,7 @@
 ghost use Rattle.std.specs.Prelude.{◌≡◌, ◌<◌, length};
 ghost use Rattle.std.specs.Arc.{arc_value};
 
+use crate::common::holds;
 use fixtures::meeting::Meeting;
 use game::graph::Game;
 use game::name::GameName;
@@ -119,8 +120,8 @@ fn any_number_of_workers_finds_the_least_table(rt: HostRuntime) {
 fn two_workers_meet(rt: HostRuntime) {
     let game = shared_game_of(&rt, &ODD_RING).expect(&rt, "a game");
     let gate = Meeting::new();
-    assert!(rt; solve_locked(&rt, rt.alloc(), &game, 16, 2, &gate).is_ok());
-    assert!(rt; gate.took_place());
+    holds!(&rt; solve_locked(&rt, rt.alloc(), &game, 16, 2, &gate).is_ok());
+    holds!(&rt; gate.took_place());
 }
 
 /// What is noted of a run: of each vertex how often it was read, lifted in the board's own way, and somebody's turn, and of two
@@ -400,9 +401,9 @@ fn is_left_to_workers(rt: &(impl Abort + AllocGlobal), rows: &[Row]) -> bool {
 // the workers' doing.
 #[test]
 fn workers_leave_nothing_to_lift(rt: HostRuntime) {
-    assert!(&rt; is_left_to_workers(&rt, &ODD_RING));
-    assert!(&rt; is_left_to_workers(&rt, &WAY));
-    assert!(&rt; is_left_to_workers(&rt, &TWO_RINGS));
+    holds!(&rt; is_left_to_workers(&rt, &ODD_RING));
+    holds!(&rt; is_left_to_workers(&rt, &WAY));
+    holds!(&rt; is_left_to_workers(&rt, &TWO_RINGS));
     for workers in [1, 2, 8] {
         assert!(rt;
             all_end_well(&rt, &ODD_RING, workers),

@@ -1,6 +1,7 @@
 // What observers are told. The numbers of vertices are counted by hand; a lift is told of after each 4,096th, and one sweep over
 // all vertices lifts each of them once.
 
+use crate::common::holds;
 use game::build::build;
 use game::graph::Game;
 use gauge::Gauge;
@@ -68,13 +69,13 @@ fn one_thread_tells_of_the_search_and_of_lifts(rt: HostRuntime) {
     let game = game_of_the_ring(&rt);
     let tally = Tally::new();
     let solved = solve_one_seen(rt.alloc(), &game, &tally);
-    assert!(rt; solved.is_ok());
-    assert!(rt; tally.searches.load(Ordering::SeqCst) == 1);
-    assert!(rt; tally.vertices.load(Ordering::SeqCst) == 17502);
+    holds!(&rt; solved.is_ok());
+    holds!(&rt; tally.searches.load(Ordering::SeqCst) == 1);
+    holds!(&rt; tally.vertices.load(Ordering::SeqCst) == 17502);
     let lifts = tally.lifts.load(Ordering::SeqCst);
     assert!(rt; lifts >= 16384 && lifts % 4096 == 0, "{lifts}");
     // The first telling is of no lift, and then there is one for each 4,096.
-    assert!(rt; tally.tellings.load(Ordering::SeqCst) == 1 + lifts / 4096);
+    holds!(&rt; tally.tellings.load(Ordering::SeqCst) == 1 + lifts / 4096);
 }
 
 /// Each vertex is a job of some worker once at least, so of 17,502 lifts by two workers one at least tells of 4,096.
@@ -90,11 +91,11 @@ fn tells_of_workers<R: Abort + AllocGlobal + Threads + Wait + Clone + Copy + Dro
         board,
     };
     let solved = solve_by(rt, rt.alloc(), &game, &team, &NoGate, &tally, &NoGuess);
-    assert!(rt; solved.is_ok());
-    assert!(rt; tally.searches.load(Ordering::SeqCst) == 1);
+    holds!(rt; solved.is_ok());
+    holds!(rt; tally.searches.load(Ordering::SeqCst) == 1);
     let lifts = tally.lifts.load(Ordering::SeqCst);
     assert!(rt; lifts >= 4096 && lifts % 4096 == 0, "{lifts}");
-    assert!(rt; tally.tellings.load(Ordering::SeqCst) == lifts / 4096);
+    holds!(rt; tally.tellings.load(Ordering::SeqCst) == lifts / 4096);
 }
 
 #[test]

@@ -3,6 +3,7 @@
 ghost use Rattle.std.specs.Prelude.{◌≡◌, ◌<◌, ◌≤◌, length};
 ghost use Rattle.tables.specs.Seats.{board_game};
 
+use crate::common::holds;
 use crate::progress_measures::{LEAST, is_as_wanted, nested_binders_game};
 use game::graph::{Game, GameBuilder};
 use game::player::Player;
@@ -50,13 +51,13 @@ fn loops(rt: &(impl Abort + AllocGlobal), ones: u32) -> Game {
 // The counts of a measure of the game have this rank, and the rank has them.
 fn has_rank(rt: &impl Abort, game: &Game, counts: &[u32; 2], wanted: u64) {
     let m = Measure::of_counts(counts);
-    assert!(rt; is_measure(game, &m));
+    holds!(rt; is_measure(game, &m));
     let Some(top) = top_rank(game) else {
         panic!(rt; "no rank")
     };
-    assert!(rt; rank(game, &m) == wanted);
-    assert!(rt; wanted < top);
-    assert!(rt; of_rank(game, wanted).counts() == counts.as_slice());
+    holds!(rt; rank(game, &m) == wanted);
+    holds!(rt; wanted < top);
+    holds!(rt; of_rank(game, wanted).counts() == counts.as_slice());
 }
 
 #[test]
@@ -69,46 +70,46 @@ fn the_rank_is_the_number_of_the_lesser_measures(rt: HostRuntime) {
     let Some(top) = top_rank(&game) else {
         panic!(&rt; "no rank")
     };
-    assert!(&rt; top == 12);
-    assert!(&rt; of_rank(&game, top).is_top());
+    holds!(&rt; top == 12);
+    holds!(&rt; of_rank(&game, top).is_top());
 }
 
 #[test]
 fn top_has_a_rank_just_below_the_limit(rt: HostRuntime) {
     let many = Arc::new(rt.alloc(), loops(&rt, 3)).expect(&rt, "memory");
-    assert!(&rt; top_rank(&many).is_none());
+    holds!(&rt; top_rank(&many).is_none());
     let refused = PackedBoard::new(rt.alloc(), many, 1);
-    assert!(&rt; matches!(&refused, Err(TableError::TooManyRanks)));
+    holds!(&rt; matches!(&refused, Err(TableError::TooManyRanks)));
     let few = Arc::new(rt.alloc(), loops(&rt, 2)).expect(&rt, "memory");
-    assert!(&rt; top_rank(&few) == Some(3 << 60));
+    holds!(&rt; top_rank(&few) == Some(3 << 60));
     let board = PackedBoard::new(rt.alloc(), few, 1);
-    assert!(&rt; board.is_ok());
+    holds!(&rt; board.is_ok());
 }
 
 #[test]
 fn a_vertex_is_lifted_once(rt: HostRuntime) {
     let game = shared_game_of(&rt, &DIAMOND).expect(&rt, "a game");
-    assert!(&rt; 4 < game.vertices());
+    holds!(&rt; 4 < game.vertices());
     let Ok(board) = PackedBoard::new(rt.alloc(), game, 1) else {
         panic!(&rt; "no board")
     };
     let Some(mut seat) = board.new_seat() else {
         panic!(&rt; "no seat")
     };
-    assert!(&rt; board.load(&mut seat, 4).counts() == [0].as_slice());
-    assert!(&rt; board.lift(&mut seat, 4), "it rises");
-    assert!(&rt; board.load(&mut seat, 4).is_top());
-    assert!(&rt; !board.lift(&mut seat, 4), "it rises once");
+    holds!(&rt; board.load(&mut seat, 4).counts() == [0].as_slice());
+    holds!(&rt; board.lift(&mut seat, 4), "it rises");
+    holds!(&rt; board.load(&mut seat, 4).is_top());
+    holds!(&rt; !board.lift(&mut seat, 4), "it rises once");
     let Ok(table) = board.close(rt.alloc(), seat) else {
         panic!(&rt; "no table")
     };
-    assert!(&rt; table.value(4).is_top());
+    holds!(&rt; table.value(4).is_top());
 }
 
 #[test]
 fn a_vertex_is_raised_once(rt: HostRuntime) {
     let game = shared_game_of(&rt, &DIAMOND).expect(&rt, "a game");
-    assert!(&rt; 4 < game.vertices());
+    holds!(&rt; 4 < game.vertices());
     let mut source = opening(rt.alloc(), &game).expect(&rt, "memory");
     settle(&game, &mut source);
     let top = source.value(4);
@@ -120,30 +121,27 @@ fn a_vertex_is_raised_once(rt: HostRuntime) {
     let Ok(mut seat) = board.seat() else {
         panic!(&rt; "no seat")
     };
-    assert!(&rt; board.read(&mut seat, 4).counts() == [0].as_slice());
-    assert!(&rt; board.raise(&mut seat, 4, &top), "it rises");
-    assert!(&rt; board.read(&mut seat, 4).is_top(), "it is read");
-    assert!(&rt; !board.raise(&mut seat, 4, &top), "it rises once");
+    holds!(&rt; board.read(&mut seat, 4).counts() == [0].as_slice());
+    holds!(&rt; board.raise(&mut seat, 4, &top), "it rises");
+    holds!(&rt; board.read(&mut seat, 4).is_top(), "it is read");
+    holds!(&rt; !board.raise(&mut seat, 4, &top), "it rises once");
     finish(&board, &game, &mut table);
-    assert!(&rt; table.value(4).is_top() && !table.value(2).is_top());
+    holds!(&rt; table.value(4).is_top() && !table.value(2).is_top());
 }
 
 #[test]
 fn a_vertex_is_lifted_in_the_board_s_own_way(rt: HostRuntime) {
     let game = shared_game_of(&rt, &DIAMOND).expect(&rt, "a game");
-    assert!(&rt; 4 < game.vertices());
+    holds!(&rt; 4 < game.vertices());
     let Ok(board) = PackedBoard::new(rt.alloc(), game, 1) else {
         panic!(&rt; "no board")
     };
     let Ok(mut seat) = board.seat() else {
         panic!(&rt; "no seat")
     };
-    assert!(&rt; board.own_lift(&mut seat, 4) == Some(true), "it rises");
-    assert!(&rt; board.read(&mut seat, 4).is_top(), "it is read");
-    assert!(&rt;
-        board.own_lift(&mut seat, 4) == Some(false),
-        "it rises once"
-    );
+    holds!(&rt; board.own_lift(&mut seat, 4) == Some(true), "it rises");
+    holds!(&rt; board.read(&mut seat, 4).is_top(), "it is read");
+    holds!(&rt; board.own_lift(&mut seat, 4) == Some(false), "it rises once");
 }
 
 // One thread lifts a vertex, and the other looks at it until it is top.
@@ -167,7 +165,7 @@ fn lifts_or_looks(board: &PackedBoard, thread: usize) -> bool
 #[test]
 fn what_one_seat_lifts_another_sees(rt: HostRuntime) {
     let game = shared_game_of(&rt, &DIAMOND).expect(&rt, "a game");
-    assert!(&rt; 4 < game.vertices());
+    holds!(&rt; 4 < game.vertices());
     let Ok(board) = PackedBoard::new(rt.alloc(), game, 2) else {
         panic!(&rt; "no board")
     };
@@ -181,7 +179,7 @@ fn what_one_seat_lifts_another_sees(rt: HostRuntime) {
         { lifts_or_looks(board, thread) },
     )
     .expect(&rt, "memory");
-    assert!(&rt; seen.iter().all(|seen| *seen));
+    holds!(&rt; seen.iter().all(|seen| *seen));
 }
 
 // A seat settles the board, and then loads the least measures.
@@ -203,7 +201,7 @@ fn settles_least(board: &PackedBoard) -> bool
 #[test]
 fn two_seats_settle_at_once(rt: HostRuntime) {
     let game = Arc::new(rt.alloc(), nested_binders_game(&rt)).expect(&rt, "memory");
-    assert!(&rt; 18 <= game.vertices());
+    holds!(&rt; 18 <= game.vertices());
     let Ok(board) = PackedBoard::new(rt.alloc(), game, 2) else {
         panic!(&rt; "no board")
     };
@@ -217,5 +215,5 @@ fn two_seats_settle_at_once(rt: HostRuntime) {
         { settles_least(board) },
     )
     .expect(&rt, "memory");
-    assert!(&rt; least.iter().all(|least| *least));
+    holds!(&rt; least.iter().all(|least| *least));
 }

@@ -3,6 +3,7 @@
 
 ghost use Rattle.std.specs.Prelude.{◌≡◌, ◌<◌, length};
 
+use crate::common::holds;
 use game::graph::Game;
 use game::player::Player;
 use measures::measure::Measure;
@@ -82,7 +83,7 @@ fn finds_the_least_measures(rt: HostRuntime) {
     let game = nested_binders_game(&rt);
     let settled = solve_one(rt.alloc(), &game).expect(&rt, "memory");
     for (v, want) in (0..18).zip(LEAST.iter()) {
-        assert!(rt; v < game.vertices());
+        holds!(&rt; v < game.vertices());
         assert!(rt; is_as_wanted(&settled.value(v), want), "at {v}");
     }
 }
@@ -91,9 +92,9 @@ fn finds_the_least_measures(rt: HostRuntime) {
 fn settles_the_opening_table(rt: HostRuntime) {
     let game = nested_binders_game(&rt);
     let mut table = opening(rt.alloc(), &game).expect(&rt, "memory");
-    assert!(rt; !is_settled(&game, &table));
+    holds!(&rt; !is_settled(&game, &table));
     settle(&game, &mut table);
-    assert!(rt; is_settled(&game, &table));
+    holds!(&rt; is_settled(&game, &table));
 }
 
 // A table is raised at one vertex, to what another has there.
@@ -102,8 +103,8 @@ fn rises(rt: &impl Abort, table: &mut PlainTable, source: &PlainTable)
     requires vertex { 4 < length source.now.game.vertices }
 {
     table.raise(2, &source.value(2));
-    assert!(rt; is_as_wanted(&table.value(2), &Some([2, 0])));
-    assert!(rt; is_as_wanted(&table.value(4), &Some([0, 0])));
+    holds!(rt; is_as_wanted(&table.value(2), &Some([2, 0])));
+    holds!(rt; is_as_wanted(&table.value(4), &Some([0, 0])));
 }
 
 #[test]
@@ -111,7 +112,7 @@ fn raises_one_vertex(rt: HostRuntime) {
     let game = nested_binders_game(&rt);
     let mut source = opening(rt.alloc(), &game).expect(&rt, "memory");
     settle(&game, &mut source);
-    assert!(rt; 4 < game.vertices());
+    holds!(&rt; 4 < game.vertices());
     rises(
         &rt,
         &mut opening(rt.alloc(), &game).expect(&rt, "memory"),
@@ -124,8 +125,8 @@ fn asks_for_the_least(rt: HostRuntime) {
     let game = nested_binders_game(&rt);
     for (v, counts, want) in &PROGS {
         let m = Measure::of_counts(counts);
-        assert!(rt; *v < game.vertices());
-        assert!(rt; is_measure(&game, &m));
+        holds!(&rt; *v < game.vertices());
+        holds!(&rt; is_measure(&game, &m));
         assert!(rt; is_as_wanted(&prog(&game, *v, &m), want), "at {v}");
         let lifted = lift(&game, *v, &Measure::of_counts(&[0, 0]), &[m]);
         assert!(rt; is_as_wanted(&lifted, want), "lifted at {v}");
@@ -140,14 +141,14 @@ fn wins(rt: &(impl Abort + AllocGlobal), priority: u8) -> (bool, bool) {
     )
     .expect(rt, "a game");
     let settled = solve_one(rt.alloc(), &game).expect(rt, "memory");
-    assert!(rt; game.vertices() == 2);
+    holds!(rt; game.vertices() == 2);
     (even_wins(&settled, 0), even_wins(&settled, 1))
 }
 
 #[test]
 fn tells_who_wins(rt: HostRuntime) {
-    assert!(rt; wins(&rt, 2) == (true, true));
-    assert!(rt; wins(&rt, 1) == (false, false));
+    holds!(&rt; wins(&rt, 2) == (true, true));
+    holds!(&rt; wins(&rt, 1) == (false, false));
 }
 
 #[test]
@@ -155,7 +156,7 @@ fn measures_are_ordered(rt: HostRuntime) {
     for (low, high) in [([0, 3], [1, 0]), ([1, 0], [1, 3])] {
         let low = Measure::of_counts(&low);
         let high = Measure::of_counts(&high);
-        assert!(rt; low.is_below(&high) && !high.copied().is_below(&low));
-        assert!(rt; high.is_below(&Measure::top()) && !Measure::top().is_below(&high));
+        holds!(&rt; low.is_below(&high) && !high.copied().is_below(&low));
+        holds!(&rt; high.is_below(&Measure::top()) && !Measure::top().is_below(&high));
     }
 }

@@ -3,6 +3,7 @@
 
 ghost use Rattle.std.specs.Prelude.{◌≡◌, ◌<◌};
 
+use crate::common::holds;
 use crate::schedules::{STEP_ROWS, TWO_STEPS};
 use game::graph::Game;
 use liftcore::event::{Event, Outcome};
@@ -146,7 +147,7 @@ fn has_table(game: &Game, core: &Core<'_>, settled: &Settled) -> bool
 /// Replays so many events at random from the start.
 fn replay_at_random(rt: &(impl Abort + AllocGlobal), dice: &mut Dice, game: &Game, events: usize) {
     let vertices = game.vertices();
-    assert!(rt; vertices > 0);
+    holds!(rt; vertices > 0);
     let settled = solve_one(rt.alloc(), game).expect(rt, "memory");
     let mut core = Core::new(rt.alloc(), game, WORKERS).expect(rt, "memory");
     let mut told = Told::new(rt.alloc(), vertices).expect(rt, "memory");
@@ -154,8 +155,8 @@ fn replay_at_random(rt: &(impl Abort + AllocGlobal), dice: &mut Dice, game: &Gam
         step(game, &mut core, &mut told, roll_event(dice, vertices));
         assert!(rt; agree(&core, &told), "{number}");
     }
-    assert!(rt; core.is_settled() == has_table(game, &core, &settled));
-    assert!(rt; core.is_settled() || !core.is_quiet());
+    holds!(rt; core.is_settled() == has_table(game, &core, &settled));
+    holds!(rt; core.is_settled() || !core.is_quiet());
 }
 
 #[test]

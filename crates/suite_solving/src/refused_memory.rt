@@ -5,6 +5,7 @@ ghost use Rattle.std.specs.Prelude.{◌≡◌, ◌<◌};
 ghost use Rattle.std.specs.Arc.{arc_value};
 
 use crate::climbing_workers::{Turns, agree};
+use crate::common::holds;
 use game::graph::Game;
 use game::name::GameName;
 use measures::settle::solve_one;
@@ -87,7 +88,7 @@ fn refuses_before_turns_over_words<R: Abort + AllocGlobal + Threads + Wait + Syn
 {
     let game = often_a(rt);
     let wanted = solve_one(rt.alloc(), &game).expect(rt, "memory");
-    assert!(rt; is_solved_over_words(rt, &game, workers, &wanted));
+    holds!(rt; is_solved_over_words(rt, &game, workers, &wanted));
 }
 
 fn refuses_before_turns_over_shards<

@@ -1,5 +1,6 @@
 // Schedules of workers and their replays: the worked examples of docs/FORMATS.md, on the games of `<a>true` and `<a><a>true`.
 
+use crate::common::holds;
 use game::graph::Game;
 use game::player::Player;
 use liftcore::error::{ReadError, ScheduleError, ScheduleFault};
@@ -68,10 +69,10 @@ fn one_step_is_replayed(rt: HostRuntime) {
     let game = game_of_rows(&rt, &STEP_ROWS).expect(&rt, "a game");
     let text = replayed(&rt, &game, "take 0 4\nread 0 1\nraise 0\n");
     let wanted = after(&rt, "events 3 done 3 skipped 0\n", STEP_RAISED);
-    assert!(rt; text.as_str() == wanted.as_str());
+    holds!(&rt; text.as_str() == wanted.as_str());
     let text = replayed(&rt, &game, "take 0 4\nread 0 1\nraise 0\nraise 0");
     let wanted = after(&rt, "events 4 done 3 skipped 1\n", STEP_RAISED);
-    assert!(rt; text.as_str() == wanted.as_str());
+    holds!(&rt; text.as_str() == wanted.as_str());
 }
 
 #[test]
@@ -79,11 +80,11 @@ fn a_late_read_does_no_harm(rt: HostRuntime) {
     let game = game_of_rows(&rt, &TWO_STEPS).expect(&rt, "a game");
     let text = replayed(&rt, &game, LATE);
     let wanted = after(&rt, "events 13 done 13 skipped 0\n", LATE_RAISED);
-    assert!(rt; text.as_str() == wanted.as_str());
+    holds!(&rt; text.as_str() == wanted.as_str());
     let late = after(&rt, "raise 0\n", LATE);
     let text = replayed(&rt, &game, late.as_str());
     let wanted = after(&rt, "events 14 done 13 skipped 1\n", LATE_RAISED);
-    assert!(rt; text.as_str() == wanted.as_str());
+    holds!(&rt; text.as_str() == wanted.as_str());
 }
 
 // Schedules for two workers and eight vertices, and their refusals.
@@ -115,7 +116,7 @@ fn faulty_schedules_are_refused(rt: HostRuntime) {
     let game = game_of_rows(&rt, &TWO_STEPS).expect(&rt, "a game");
     for (schedule, wanted) in &REFUSED {
         let text = replayed(&rt, &game, schedule);
-        assert!(rt; text.as_str() == *wanted);
+        holds!(&rt; text.as_str() == *wanted);
     }
 }
 
@@ -146,10 +147,10 @@ fn is_read_alike(rt: &(impl Abort + AllocGlobal), schedule: &str) -> bool {
 #[test]
 fn schedules_are_read_in_pieces(rt: HostRuntime) {
     for schedule in [LATE, "", "take 1 7", "raise 0\nraise 1", "push 0 6\n"] {
-        assert!(rt; is_read_alike(&rt, schedule), "{schedule}");
+        holds!(&rt; is_read_alike(&rt, schedule), schedule);
     }
     for (schedule, _) in &REFUSED {
-        assert!(rt; is_read_alike(&rt, schedule), "{schedule}");
+        holds!(&rt; is_read_alike(&rt, schedule), schedule);
     }
 }
 
@@ -171,14 +172,14 @@ fn reads_of_schedules_fail_or_are_tried_again(rt: HostRuntime) {
             step: 3,
             fails: true,
         };
-        assert!(rt; read_schedule_from(rt.alloc(), reader, 2, 8).err() == Some(wanted));
+        holds!(&rt; read_schedule_from(rt.alloc(), reader, 2, 8).err() == Some(wanted));
     }
     let reader = Halting {
         left: LATE.as_bytes(),
         is_interrupted: false,
     };
     let events = read_schedule_from(rt.alloc(), reader, 2, 8).expect(&rt, "events");
-    assert!(rt; events.len() == 13);
+    holds!(&rt; events.len() == 13);
 }
 
 #[test]
@@ -187,7 +188,7 @@ fn the_empty_text_is_a_schedule(rt: HostRuntime) {
     let text = replayed(&rt, &game, "");
     let wanted =
         "events 0 done 0 skipped 0\n0 (0)\n1 top\n2 (0)\n3 (0)\n4 (0)\n5 (0)\npending 0,1,2,3,4,5\nsettled no\nquiet no\n";
-    assert!(rt; text.as_str() == wanted);
+    holds!(&rt; text.as_str() == wanted);
 }
 
 // Events that one worker can't do at first: it has no vertex in hand, there is no second worker, and the game has six vertices.
@@ -241,12 +242,12 @@ fn events_that_cannot_be_done_are_skipped(rt: HostRuntime) {
     let game = game_of_rows(&rt, &STEP_ROWS).expect(&rt, "a game");
     let mut core = Core::new(rt.alloc(), &game, 1).expect(&rt, "memory");
     for event in NOT_YET {
-        assert!(rt; core.step(event) == Outcome::Skipped);
+        holds!(&rt; core.step(event) == Outcome::Skipped);
     }
     for (event, outcome) in TAKEN {
-        assert!(rt; core.step(event) == outcome);
+        holds!(&rt; core.step(event) == outcome);
     }
-    assert!(rt; !core.is_pending(4) && core.is_pending(5));
+    holds!(&rt; !core.is_pending(4) && core.is_pending(5));
 }
 
 #[test]
@@ -263,7 +264,7 @@ fn a_quiet_core_is_settled(rt: HostRuntime) {
             core.step(Event::Raise { worker: 0 });
         }
     }
-    assert!(rt; core.is_quiet() && core.is_settled());
+    holds!(&rt; core.is_quiet() && core.is_settled());
 }
 
 #[test]
@@ -281,5 +282,5 @@ fn a_run_is_its_events(rt: HostRuntime) {
         Event::Raise { worker: 0 },
     ];
     let core = run(rt.alloc(), &game, 1, events.as_slice()).expect(&rt, "memory");
-    assert!(rt; core.is_settled() && !core.is_quiet() && !core.is_pending(4));
+    holds!(&rt; core.is_settled() && !core.is_quiet() && !core.is_pending(4));
 }

@@ -3,6 +3,7 @@
 
 ghost use Rattle.std.specs.Prelude.{◌≡◌, ◌<◌, length};
 
+use crate::common::holds;
 use crate::schedules::TWO_STEPS;
 use evidence::reader::read_evidence;
 use evidence::verdict::{Both, Verdict};
@@ -30,11 +31,11 @@ fn of_table(rt: &(impl Abort + AllocGlobal), settles: bool) {
     let game = game_of_rows(rt, &TWO_STEPS).expect(rt, "a game");
     let mut table = opening(rt.alloc(), &game).expect(rt, "memory");
     if !settles {
-        assert!(rt; !is_settled(&game, &table));
+        holds!(rt; !is_settled(&game, &table));
         return;
     }
     settle(&game, &mut table);
-    assert!(rt; is_settled(&game, &table));
+    holds!(rt; is_settled(&game, &table));
 }
 
 #[test]
@@ -60,12 +61,12 @@ fn of_shard<K: GameName>(
     requires vertex { 2 < length source.now.game.vertices }
 {
     let mut shard = Shard::<K>::new(alloc, game, 0, 2).expect(rt, "memory");
-    assert!(rt; shard.has(2));
+    holds!(rt; shard.has(2));
     let top = source.value(2);
-    assert!(rt; top.is_top() && !shard.read(2).is_top());
+    holds!(rt; top.is_top() && !shard.read(2).is_top());
     if raises {
-        assert!(rt; shard.raise(2, &top));
-        assert!(rt; shard.read(2).is_top());
+        holds!(rt; shard.raise(2, &top));
+        holds!(rt; shard.read(2).is_top());
     }
 }
 
@@ -74,7 +75,7 @@ fn of_settled(rt: &(impl Abort + AllocGlobal), raises: bool) {
     let game = game_of_rows(rt, &TWO_STEPS).expect(rt, "a game");
     let mut source = opening(rt.alloc(), &game).expect(rt, "memory");
     settle(&game, &mut source);
-    assert!(rt; 2 < game.vertices());
+    holds!(rt; 2 < game.vertices());
     of_shard::<Brand>(rt, rt.alloc(), &game, &source, raises)
 }
 
@@ -101,8 +102,8 @@ fn of_evidence(rt: &(impl Abort + AllocGlobal), checks: bool) {
     let even = read_evidence(rt.alloc(), EVEN.as_bytes(), &game).expect(rt, "evidence");
     let odd = read_evidence(rt.alloc(), ODD.as_bytes(), &game).expect(rt, "evidence");
     if checks {
-        assert!(rt; verify(&game, &even) == Verdict::Good);
-        assert!(rt; check_both(&game, &even, &odd) == Both::Yes);
+        holds!(rt; verify(&game, &even) == Verdict::Good);
+        holds!(rt; check_both(&game, &even, &odd) == Both::Yes);
     }
 }
 
@@ -123,11 +124,11 @@ fn of_texts(rt: &(impl Abort + AllocGlobal), writes: bool) {
     let even = read_evidence(rt.alloc(), EVEN.as_bytes(), &game).expect(rt, "evidence");
     let mut out = Vec::with_capacity(rt.alloc(), 1_000).expect(rt, "memory");
     if writes {
-        assert!(rt; write_aut(&system, &mut out).is_ok());
-        assert!(rt; write_game(&game, &mut out).is_ok());
-        assert!(rt; write_evidence(&even, &mut out).is_ok());
-        assert!(rt; out.len() == RING.len() + GAME.len() + EVEN.len());
-        assert!(rt; out.starts_with(RING.as_bytes()) && out.ends_with(EVEN.as_bytes()));
+        holds!(rt; write_aut(&system, &mut out).is_ok());
+        holds!(rt; write_game(&game, &mut out).is_ok());
+        holds!(rt; write_evidence(&even, &mut out).is_ok());
+        holds!(rt; out.len() == RING.len() + GAME.len() + EVEN.len());
+        holds!(rt; out.starts_with(RING.as_bytes()) && out.ends_with(EVEN.as_bytes()));
     }
 }
 
@@ -162,7 +163,7 @@ fn of_system(rt: &(impl Abort + AllocGlobal), has_blanks: bool, step: usize) {
         fails: false,
     };
     let system = read_aut(rt.alloc(), reader).expect(rt, "a system");
-    assert!(rt; system.states() == 2 && system.all().len() == 1);
+    holds!(rt; system.states() == 2 && system.all().len() == 1);
 }
 
 #[test]
@@ -191,12 +192,12 @@ fn of_game(rt: &(impl Abort + AllocGlobal + Threads + Sync), has_dual: bool) {
     let formula = "[true*]<true*>(<a>true)";
     let arena = shared_arena_of(rt, system.as_str(), formula).expect(rt, "a game");
     let mut text = Vec::new(rt.alloc());
-    assert!(rt; write_game(&arena, &mut text).is_ok());
+    holds!(rt; write_game(&arena, &mut text).is_ok());
     let game = read_game(rt.alloc(), text.as_slice()).expect(rt, "a game");
-    assert!(rt; game.vertices() == 25_002 && greatest_priority(&game) <= 31);
+    holds!(rt; game.vertices() == 25_002 && greatest_priority(&game) <= 31);
     if has_dual {
         let dual = dual(rt.alloc(), &game).expect(rt, "memory");
-        assert!(rt; dual.vertices() == 25_002);
+        holds!(rt; dual.vertices() == 25_002);
     }
 }
 

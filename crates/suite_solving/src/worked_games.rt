@@ -1,6 +1,7 @@
 // Workers on the games of formulas, over either board, from the opening table on. They are one, two or eight; two of them wait at their first
 // turns until both have come.
 
+use crate::common::holds;
 use crate::many_workers::{end_well_over_shards, end_well_over_words, is_left};
 use fixtures::texts::STAY;
 use game::graph::Game;
@@ -25,7 +26,7 @@ fn left_game(
     formula: &str,
 ) -> Arc<Game, Global> {
     let game = shared_arena_of(rt, system, formula).expect(rt, "a game");
-    assert!(rt; is_left(rt, &game), "{formula}");
+    holds!(rt; is_left(rt, &game), formula);
     game
 }
 
