@@ -1,6 +1,6 @@
 // Command lines, and what is asked for by them.
 
-use crate::common::{holds, same};
+use crate::common::{holds, repeats, same};
 use crate::help::HELP;
 use command_line::information::{explanation, help_text, version_text};
 use command_line::line::command;
@@ -15,12 +15,17 @@ use std::alloc::{AllocError, Global};
 use std::process::Abort;
 
 /// The words of a command line.
-fn words(alloc: Global, line: &str) -> Result<Vec<String>, AllocError> {
-    let mut words = Vec::new(alloc);
+fn words(rt: &(impl Abort + AllocGlobal), line: &str) -> Vec<String> {
+    let mut words = Vec::new(rt.alloc());
     for word in line.split(' ') {
-        words.push(String::from_str(alloc, word)?)?;
+        holds(rt, line, push_word(&mut words, rt.alloc(), word).is_ok());
     }
-    Ok(words)
+    words
+}
+
+fn push_word(words: &mut Vec<String>, alloc: Global, word: &str) -> Result<(), AllocError> {
+    words.push(String::from_str(alloc, word)?)?;
+    Ok(())
 }
 
 /// Adds words to a text, each behind a space but the first.
@@ -103,11 +108,15 @@ fn add_files(text: &mut String, files: &[&str]) -> Result<(), AllocError> {
     Ok(())
 }
 
+fn add_output(text: &mut String, output: Option<&str>) -> Result<(), AllocError> {
+    add(text, &[output.unwrap_or("-")])
+}
+
 /// Adds where a check's texts go, or a line where they go nowhere.
 fn add_outputs(text: &mut String, outputs: &Outputs<'_>) -> Result<(), AllocError> {
-    for output in [outputs.game, outputs.evidence, outputs.witness] {
-        add(text, &[output.unwrap_or("-")])?;
-    }
+    add_output(text, outputs.game)?;
+    add_output(text, outputs.evidence)?;
+    add_output(text, outputs.witness)?;
     add_form(text, outputs.report)
 }
 
@@ -202,9 +211,9 @@ fn request_of(alloc: Global, words: &[String]) -> Result<String, AllocError> {
 }
 
 /// What a line asks for, or why it is refused.
-fn line_asked(alloc: Global, line: &str) -> Result<String, AllocError> {
-    let words = words(alloc, line)?;
-    request_of(alloc, words.as_slice())
+fn line_asked(rt: &(impl Abort + AllocGlobal), line: &str) -> String {
+    let words = words(rt, line);
+    request_of(rt.alloc(), words.as_slice()).expect(rt, "memory")
 }
 
 /// Checks and what they ask for, with the defaults of the program's description: how they solve, and what they write beside the report.
@@ -397,7 +406,7 @@ static OTHERS: [(&str, &str); 28] = [
 ];
 
 fn takes(rt: &(impl Abort + AllocGlobal), line: &str, wanted: &str) {
-    let asked = line_asked(rt.alloc(), line).expect(rt, "memory");
+    let asked = line_asked(rt, line);
     same(rt, line, asked.as_str(), wanted);
 }
 
@@ -508,10 +517,10 @@ static REFUSED: [&str; 86] = [
     "mucheck other",
 ];
 
-/// Whether the words of a line are no command.
-fn is_refused(alloc: Global, line: &str) -> Result<bool, AllocError> {
-    let words = words(alloc, line)?;
-    Ok(is_no_command(alloc, words.as_slice()))
+/// The words of a line are no command.
+fn is_refused(rt: &(impl Abort + AllocGlobal), line: &str) {
+    let words = words(rt, line);
+    holds(rt, line, is_no_command(rt.alloc(), words.as_slice()));
 }
 
 fn is_no_command(alloc: Global, words: &[String]) -> bool {
@@ -521,7 +530,7 @@ fn is_no_command(alloc: Global, words: &[String]) -> bool {
 #[test]
 fn refuses_command_lines(rt: HostRuntime) {
     for line in &REFUSED {
-        holds(&rt, line, matches!(is_refused(rt.alloc(), line), Ok(true)));
+        is_refused(&rt, line);
     }
 }
 
@@ -587,12 +596,8 @@ static DESTRUCTIVE: [(&str, &str); 14] = [
 
 /// What is written of a line that asks for help, or is refused.
 fn told(rt: &(impl Abort + AllocGlobal), line: &str) -> String {
-    line_told(rt.alloc(), line).expect(rt, "memory")
-}
-
-fn line_told(alloc: Global, line: &str) -> Result<String, AllocError> {
-    let words = words(alloc, line)?;
-    help(alloc, words.as_slice())
+    let words = words(rt, line);
+    help(rt.alloc(), words.as_slice()).expect(rt, "memory")
 }
 
 /// This is written of a line that asks for help, or is refused.
@@ -603,7 +608,7 @@ fn tells(rt: &(impl Abort + AllocGlobal), line: &str, wanted: &str) {
 
 /// This is written of a line behind the word that it is an error.
 fn tells_error(rt: &(impl Abort + AllocGlobal), line: &str, wanted: &str) {
-    let wanted = format!(in rt.alloc(); "error: {wanted}\n").expect(rt, "memory");
+    let wanted = repeats(rt, "error: ", (wanted, 1), "\n");
     tells(rt, line, wanted.as_str());
 }
 
@@ -654,7 +659,14 @@ fn codes_are_explained(rt: HostRuntime) {
         "A3 at line 1: more than 10,000,000 transitions or 1,000,000 states are announced\n\
         What to do: reduce the system first, for example by branching bisimulation\n",
     );
-    for code in &["", "A", "A0", "A33", "a3", "T3"] {
+}
+
+/// Words that are no code.
+static NO_CODES: [&str; 6] = ["", "A", "A0", "A33", "a3", "T3"];
+
+#[test]
+fn what_is_no_code_is_refused(rt: HostRuntime) {
+    for code in &NO_CODES {
         holds(&rt, code, is_no_code(rt.alloc(), code));
     }
 }
@@ -666,7 +678,7 @@ fn help_of(rt: &(impl Abort + AllocGlobal), command: Option<&str>) -> String {
 
 /// What help tells of a command is what its option shows.
 fn helps(rt: &(impl Abort + AllocGlobal), command: &str) {
-    let line = format!(in rt.alloc(); "mucheck {command} --help").expect(rt, "memory");
+    let line = repeats(rt, "mucheck ", (command, 1), " --help");
     let wanted = help_of(rt, Some(command));
     tells(rt, line.as_str(), wanted.as_str());
 }
@@ -687,15 +699,21 @@ fn is_version(rt: &(impl Abort + AllocGlobal), wanted: &str) {
     same(rt, "version", text.as_str(), wanted);
 }
 
+static COMMANDS: [&str; 10] = [
+    "check", "why", "table", "normal", "solve", "verify", "replay", "explain", "help", "version",
+];
+
+/// What is told of the help of a command is what its option shows.
+#[test]
+fn texts_of_commands_are_those_of_their_options(rt: HostRuntime) {
+    for command in &COMMANDS {
+        helps(&rt, command);
+    }
+}
+
 /// What is told of help and version is what their options show.
 #[test]
 fn texts_are_those_of_the_options(rt: HostRuntime) {
-    for command in &[
-        "check", "why", "table", "normal", "solve", "verify", "replay", "explain", "help",
-        "version",
-    ] {
-        helps(&rt, command);
-    }
     helps_with(&rt, HELP);
     is_version(&rt, TOLD_VERSION);
     holds(&rt, "no such command", is_no_topic(rt.alloc(), "other"));
@@ -768,10 +786,15 @@ fn shows(rt: &impl Abort, text: &str, parts: &[&str]) {
     }
 }
 
+fn shows_parts(rt: &(impl Abort + AllocGlobal), line: &str, parts: &[&str; 4]) {
+    let text = told(rt, line);
+    shows(rt, text.as_str(), parts.as_slice());
+}
+
 #[test]
 fn help_shows_what_is_served(rt: HostRuntime) {
     for (line, parts) in &SHOWN {
-        shows(&rt, told(&rt, line).as_str(), parts.as_slice());
+        shows_parts(&rt, line, parts);
     }
 }
 

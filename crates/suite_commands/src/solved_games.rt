@@ -142,9 +142,10 @@ fn evidence_is_that_worked_out(rt: HostRuntime) {
 fn are_cut_at(rt: &impl Abort, lengths: [usize; 3], at: usize)
     requires { at < 3 }
 {
-    assert!(rt; lengths[at] == 9);
+    holds(rt, "nine bytes", lengths[at] == 9);
     for text in 0..3 {
-        assert!(rt; text == at || (lengths[text] > 9) == (text < at));
+        let is_so = text == at || (lengths[text] > 9) == (text < at);
+        holds(rt, "those before are longer", is_so);
     }
 }
 
@@ -165,9 +166,9 @@ fn is_cut_at<H: Abort + Threads + Wait + AllocGlobal + Clone + Copy + Drop + Sen
 /// A text that isn't written whole stops the others: those before it are whole, and those after it empty.
 #[test]
 fn texts_are_written_one_after_another(rt: HostRuntime) {
-    for at in 0..3 {
-        is_cut_at(&rt, at);
-    }
+    is_cut_at(&rt, 0);
+    is_cut_at(&rt, 1);
+    is_cut_at(&rt, 2);
 }
 
 /// Nothing is written of a text that is no game.

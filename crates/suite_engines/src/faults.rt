@@ -1,12 +1,13 @@
 // Reads and writes that fail, are cut short or are interrupted, as the engines tell them.
 
-use crate::common::{holds, same};
+use crate::common::{ample, holds, is_text, repeats, same, says};
+use crate::reports::refuses_as;
 use engines::engine::check_plain;
 use engines::error::MuError;
 use lts::put;
 use samples::readers::{Halting, Slow};
 use samples::texts::RING;
-use samples::writers::{AMPLE, AtEnd, Narrow};
+use samples::writers::{AtEnd, Narrow};
 use std::alloc::{AllocError, Global};
 use std::io::Read;
 use std::process::Abort;
@@ -45,25 +46,29 @@ fn refusal<R: Read + Drop, S: Read + Drop>(
     told(rt.alloc(), &answer).expect(rt, "memory")
 }
 
-#[test]
-fn a_failed_read_has_the_code_of_its_text(rt: HostRuntime) {
-    let system = refusal(&rt, slow(RING, true), slow(FORMULA, false));
-    same(&rt, "system", system.as_str(), "A8");
-    let formula = refusal(&rt, slow(RING, false), slow(FORMULA, true));
-    same(&rt, "formula", formula.as_str(), "U3");
-    let both = refusal(&rt, slow(RING, true), slow(FORMULA, true));
-    same(&rt, "both", both.as_str(), "A8");
+/// These texts, of which one fails to be read, are refused so.
+fn is_refused(rt: &(impl Abort + AllocGlobal), aut: Slow<'_>, formula: Slow<'_>, wanted: &str) {
+    let found = refusal(rt, aut, formula);
+    same(rt, "code", found.as_str(), wanted);
 }
 
-/// Whether the whole report is written, to such a writer.
+#[test]
+fn a_failed_read_has_the_code_of_its_text(rt: HostRuntime) {
+    is_refused(&rt, slow(RING, true), slow(FORMULA, false), "A8");
+    is_refused(&rt, slow(RING, false), slow(FORMULA, true), "U3");
+    is_refused(&rt, slow(RING, true), slow(FORMULA, true), "A8");
+}
+
+/// The whole report is written, to such a writer.
 fn is_whole<R: Read + Drop, S: Read + Drop>(
-    alloc: Global,
+    rt: &(impl Abort + AllocGlobal),
     aut: R,
     formula: S,
     out: &mut Narrow,
-) -> bool {
-    let answer = check_plain(alloc, aut, formula, out);
-    answer.ok() == Some(true) && out.taken.as_slice() == REPORT.as_bytes()
+) {
+    let answer = check_plain(rt.alloc(), aut, formula, out);
+    says(rt, "the check", &answer, true);
+    is_text(rt, out.taken.as_slice(), REPORT);
 }
 
 /// All bytes of the text, where every second read is interrupted.
@@ -76,47 +81,51 @@ fn halting(text: &str) -> Halting<'_> {
 
 #[test]
 fn interrupted_reads_and_writes_are_tried_again(rt: HostRuntime) {
-    let mut out = Narrow::new(rt.alloc(), 5, AMPLE);
+    let mut out = ample(&rt, 5);
     out.interrupts = true;
-    holds!(&rt; is_whole(rt.alloc(), halting(RING), halting(FORMULA), &mut out));
+    is_whole(&rt, halting(RING), halting(FORMULA), &mut out);
 }
 
 #[test]
 fn texts_may_come_a_few_bytes_at_a_time(rt: HostRuntime) {
-    let mut out = Narrow::new(rt.alloc(), 1, AMPLE);
-    let system = slow(RING, false);
-    let formula = slow(FORMULA, false);
-    holds!(&rt; is_whole(rt.alloc(), system, formula, &mut out));
+    let mut out = ample(&rt, 1);
+    is_whole(&rt, slow(RING, false), slow(FORMULA, false), &mut out);
+}
+
+/// A writer that takes nothing behind so many bytes.
+fn is_cut(rt: &(impl Abort + AllocGlobal), room: usize) {
+    let mut out = Narrow::new(rt.alloc(), 7, room);
+    out.at_end = AtEnd::TakesNothing;
+    let answer = check_plain(rt.alloc(), RING.as_bytes(), FORMULA.as_bytes(), &mut out);
+    refuses_as(rt, &answer, "W1");
+    holds!(rt; out.taken.len() == room);
 }
 
 #[test]
 fn a_writer_that_takes_nothing_is_a_failed_write(rt: HostRuntime) {
     for room in 0..REPORT.len() {
-        let mut out = Narrow::new(rt.alloc(), 7, room);
-        out.at_end = AtEnd::TakesNothing;
-        let answer = check_plain(rt.alloc(), RING.as_bytes(), FORMULA.as_bytes(), &mut out);
-        same(
-            &rt,
-            "code",
-            told(rt.alloc(), &answer).expect(&rt, "memory").as_str(),
-            "W1",
-        );
-        holds!(&rt; out.taken.len() == room);
+        is_cut(&rt, room);
     }
 }
 
 /// More than any writer here takes at once.
 const PIECE: usize = 200_000;
 
+fn piece(rt: &(impl Abort + AllocGlobal)) -> String {
+    repeats(rt, "", "x", PIECE, "")
+}
+
+/// A piece is written whole by a writer that takes so many bytes at a time.
+fn is_put(rt: &(impl Abort + AllocGlobal), piece: &str, step: usize) {
+    let mut out = ample(rt, step);
+    holds!(rt; put(&mut out, piece.as_bytes()).is_ok());
+    holds!(rt; out.taken.as_slice() == piece.as_bytes());
+}
+
 #[test]
 fn a_large_piece_is_written_whole(rt: HostRuntime) {
-    let mut piece = Vec::with_capacity(rt.alloc(), PIECE).expect(&rt, "memory");
-    for _ in 0..PIECE {
-        piece.push(b'x').expect(&rt, "memory");
-    }
-    for step in [1_000, 65_537, PIECE] {
-        let mut out = Narrow::new(rt.alloc(), step, AMPLE);
-        assert!(rt; put(&mut out, &piece).is_ok(), "{step} at a time");
-        holds!(&rt; out.taken.as_slice() == piece.as_slice());
-    }
+    let piece = piece(&rt);
+    is_put(&rt, piece.as_str(), 1_000);
+    is_put(&rt, piece.as_str(), 65_537);
+    is_put(&rt, piece.as_str(), PIECE);
 }

@@ -1,8 +1,8 @@
 // Checks by workers over boards: that neither shows in a report, when a board can't be had, and that both workers take turns.
 // The reports are those that were worked out by hand; the least system without a packed board is computed from the definition.
 
-use crate::common::{holds, same};
-use crate::reports::{outcome_text, report_of_the_ring};
+use crate::common::{holds, repeats, ring_of, says};
+use crate::reports::{refuses_as, ring_report};
 use engines::engine::{check, check_gated};
 use engines::error::MuError;
 use engines::request::{BoardKind, Options};
@@ -10,8 +10,8 @@ use engines::writers::EvidenceWriters;
 use fixtures::meeting::Meeting;
 use fixtures::texts::{EVEN_OF_OFTEN_A, ODD_OF_OFTEN_A, OFTEN_A};
 use forms::priorities::Priorities;
-use samples::texts::{RING, repeated_text, ring};
-use std::alloc::{AllocError, Global};
+use samples::texts::RING;
+use std::alloc::Global;
 use std::process::Abort;
 use std::sync::Wait;
 use std::thread::Threads;
@@ -29,62 +29,80 @@ fn options(workers: u32, shards: u32, board: BoardKind) -> Option<Options> {
     })
 }
 
-// What a check of these texts answers, and its report.
+// The same, and there are some.
+fn team(rt: &impl Abort, workers: u32, shards: u32, board: BoardKind) -> Options {
+    options(workers, shards, board).expect(rt, "options")
+}
+
+// What a check of these texts answers. It writes its report.
 fn checked<R: Abort + AllocGlobal + Threads + Wait + Clone + Copy + Drop + Send + Sync>(
     rt: &R,
     system: &str,
     formula: &str,
     options: &Options,
-) -> (Result<bool, MuError>, Vec<u8>) {
-    let mut out = Vec::new(rt.alloc());
+    out: &mut Vec<u8>,
+) -> Result<bool, MuError> {
     let (system, formula) = (system.as_bytes(), formula.as_bytes());
     let game: Option<&mut Vec<u8>> = None;
     let evidence: EvidenceWriters<'_, Vec<u8>, Vec<u8>> = EvidenceWriters::Neither;
-    let answer = check(
+    check(
         rt,
         rt.alloc(),
         system,
         formula,
         options,
-        &mut out,
+        out,
         game,
         evidence,
-    );
-    (answer, out)
+    )
 }
 
-// The report on a ring of 2,500 states, at each of which the formula holds, is this whatever the team.
+// The report of this team on the system is this.
+fn is_reported<R: Abort + AllocGlobal + Threads + Wait + Clone + Copy + Drop + Send + Sync>(
+    rt: &R,
+    system: &str,
+    options: &Options,
+    wanted: &str,
+) {
+    let mut report = Vec::new(rt.alloc());
+    let answer = checked(rt, system, "[true*]<true*>(<a>true)", options, &mut report);
+    says(rt, "the ring", &answer, true);
+    holds!(rt; report.as_slice() == wanted.as_bytes(), "the report on the ring");
+}
+
+// The report on a ring of 2,500 states, at each of which the formula holds, is the same whatever the team.
 fn shows_no_team<R: Abort + AllocGlobal + Threads + Wait + Clone + Copy + Drop + Send + Sync>(
     rt: &R,
     workers: u32,
     shards: u32,
     board: BoardKind,
 ) {
-    let system = ring(rt.alloc(), 2500).expect(rt, "memory");
-    let wanted = report_of_the_ring(rt.alloc()).expect(rt, "memory");
-    let options = options(workers, shards, board).expect(rt, "options");
-    let (answer, report) = checked(rt, system.as_str(), "[true*]<true*>(<a>true)", &options);
-    assert!(rt; answer.ok() == Some(true), "{workers} {shards} {board:?}");
-    assert!(rt;
-        report.as_slice() == wanted.as_bytes(),
-        "{workers} {shards} {board:?}"
-    );
+    let system = ring_of(rt, 2500);
+    let wanted = ring_report(rt);
+    let options = team(rt, workers, shards, board);
+    is_reported(rt, system.as_str(), &options, wanted.as_str());
+}
+
+fn show_no_team<R: Abort + AllocGlobal + Threads + Wait + Clone + Copy + Drop + Send + Sync>(
+    rt: &R,
+    board: BoardKind,
+) {
+    shows_no_team(rt, 1, 1, board);
+    shows_no_team(rt, 1, 16, board);
+    shows_no_team(rt, 2, 1, board);
+    shows_no_team(rt, 2, 16, board);
+    shows_no_team(rt, 8, 1, board);
+    shows_no_team(rt, 8, 16, board);
 }
 
 #[test]
 fn no_locked_board_shows_in_a_report(rt: HostRuntime) {
-    for workers in [1, 2, 8] {
-        shows_no_team(&rt, workers, 1, BoardKind::Locked);
-        shows_no_team(&rt, workers, 16, BoardKind::Locked);
-    }
+    show_no_team(&rt, BoardKind::Locked)
 }
 
 #[test]
 fn no_packed_board_shows_in_a_report(rt: HostRuntime) {
-    for workers in [1, 2, 8] {
-        shows_no_team(&rt, workers, 1, BoardKind::Packed);
-        shows_no_team(&rt, workers, 16, BoardKind::Packed);
-    }
+    show_no_team(&rt, BoardKind::Packed)
 }
 
 #[test]
@@ -122,54 +140,53 @@ impl Texts {
     }
 }
 
-// Two workers meet at their first turns, and what they find is written.
-fn meets<R: Abort + AllocGlobal + Threads + Wait + Clone + Copy + Drop + Send + Sync>(
+// A check on the ring writes all of them, by this team before whose turns the gate stands.
+fn check_all<R: Abort + AllocGlobal + Threads + Wait + Clone + Copy + Drop + Send + Sync>(
     rt: &R,
-    board: BoardKind,
-) -> bool {
-    let mut texts = Texts::new(rt.alloc());
-    let gate = Meeting::new();
-    let options = options(2, 16, board).expect(rt, "options");
+    options: &Options,
+    gate: &Meeting,
+    texts: &mut Texts,
+) -> Result<bool, MuError> {
     let (system, formula) = (RING.as_bytes(), "nu X. mu Y. (<a>X || <b>Y)".as_bytes());
     let evidence = EvidenceWriters::Both(&mut texts.even, &mut texts.odd);
     let (out, game) = (&mut texts.report, Some(&mut texts.game));
-    let answer = check_gated(
+    check_gated(
         rt,
         rt.alloc(),
         system,
         formula,
-        &options,
+        options,
         out,
         game,
         evidence,
-        &gate,
-    );
-    answer.ok() == Some(true) && texts.are_often_a() && gate.took_place()
+        gate,
+    )
+}
+
+// Two workers meet at their first turns, and what they find is written.
+fn meet<R: Abort + AllocGlobal + Threads + Wait + Clone + Copy + Drop + Send + Sync>(
+    rt: &R,
+    board: BoardKind,
+) {
+    let mut texts = Texts::new(rt.alloc());
+    let gate = Meeting::new();
+    let answer = check_all(rt, &team(rt, 2, 16, board), &gate, &mut texts);
+    says(rt, "often a", &answer, true);
+    holds!(rt; texts.are_often_a());
+    holds!(rt; gate.took_place());
 }
 
 #[test]
 fn two_workers_of_a_check_meet(rt: HostRuntime) {
-    holds!(&rt; meets(&rt, BoardKind::Locked), "over shards");
-    holds!(&rt; meets(&rt, BoardKind::Packed), "over words");
-    holds!(&rt; meets(&rt, BoardKind::Auto), "over either");
+    meet(&rt, BoardKind::Locked);
+    meet(&rt, BoardKind::Packed);
+    meet(&rt, BoardKind::Auto);
 }
 
 // 31 fixpoints in one another, each of a priority of its own. On n states there are n vertices of each odd priority from 3 to 31,
 // and one more of priority 1, the false sink: the rank of top is 15 times the factor n + 1, and once n + 2.
-fn sixteen_counts(alloc: Global) -> Result<String, AllocError> {
-    repeated_text(alloc, "mu X. ", "nu X. mu X. ", 15, "true")
-}
-
-// What is shown of a refusal.
-fn refused<R: Abort + AllocGlobal + Threads + Wait + Clone + Copy + Drop + Send + Sync>(
-    rt: &R,
-    system: &str,
-    options: &Options,
-) -> String {
-    let formula = sixteen_counts(rt.alloc()).expect(rt, "memory");
-    let (answer, report) = checked(rt, system, formula.as_str(), options);
-    holds!(rt; report.is_empty(), "nothing is written");
-    outcome_text(rt.alloc(), &answer).expect(rt, "memory")
+fn sixteen_counts(rt: &(impl Abort + AllocGlobal)) -> String {
+    repeats(rt, "mu X. ", "nu X. mu X. ", 15, "true")
 }
 
 // 15 ^ 15 * 16 is above 2 ^ 62, and 14 ^ 15 * 15 is below.
@@ -177,33 +194,69 @@ const TOO_MANY: &str = "des (0,0,14)\n";
 
 const FEW_ENOUGH: &str = "des (0,0,13)\n";
 
-#[test]
-fn a_packed_board_that_can_t_be_had_is_refused(rt: HostRuntime) {
-    for workers in [1, 2, 8] {
-        let options = options(workers, 16, BoardKind::Packed).expect(&rt, "options");
-        let refusal = refused(&rt, TOO_MANY, &options);
-        same(&rt, "fourteen states", refusal.as_str(), "T1");
-    }
+// A packed board is refused to so many workers, and nothing is written.
+fn is_refused<R: Abort + AllocGlobal + Threads + Wait + Clone + Copy + Drop + Send + Sync>(
+    rt: &R,
+    formula: &str,
+    workers: u32,
+) {
+    let options = team(rt, workers, 16, BoardKind::Packed);
+    let mut report = Vec::new(rt.alloc());
+    let answer = checked(rt, TOO_MANY, formula, &options, &mut report);
+    holds!(rt; report.is_empty(), "nothing is written");
+    refuses_as(rt, &answer, "T1");
 }
 
-// Whether the check answers yes.
+#[test]
+fn a_packed_board_that_can_t_be_had_is_refused(rt: HostRuntime) {
+    let formula = sixteen_counts(&rt);
+    is_refused(&rt, formula.as_str(), 1);
+    is_refused(&rt, formula.as_str(), 2);
+    is_refused(&rt, formula.as_str(), 8);
+}
+
+// The check answers yes.
 fn is_answered<R: Abort + AllocGlobal + Threads + Wait + Clone + Copy + Drop + Send + Sync>(
     rt: &R,
     system: &str,
-    board: BoardKind,
+    formula: &str,
+    options: &Options,
+) {
+    let mut report = Vec::new(rt.alloc());
+    let answer = checked(rt, system, formula, options, &mut report);
+    says(rt, system, &answer, true);
+}
+
+// Every other board can be had by so many workers.
+fn are_answered<R: Abort + AllocGlobal + Threads + Wait + Clone + Copy + Drop + Send + Sync>(
+    rt: &R,
+    formula: &str,
     workers: u32,
-) -> bool {
-    let formula = sixteen_counts(rt.alloc()).expect(rt, "memory");
-    let options = options(workers, 16, board).expect(rt, "options");
-    let (answer, _) = checked(rt, system, formula.as_str(), &options);
-    answer.ok() == Some(true)
+) {
+    is_answered(
+        rt,
+        FEW_ENOUGH,
+        formula,
+        &team(rt, workers, 16, BoardKind::Packed),
+    );
+    is_answered(
+        rt,
+        TOO_MANY,
+        formula,
+        &team(rt, workers, 16, BoardKind::Auto),
+    );
+    is_answered(
+        rt,
+        TOO_MANY,
+        formula,
+        &team(rt, workers, 16, BoardKind::Locked),
+    );
 }
 
 #[test]
 fn every_other_board_can_be_had(rt: HostRuntime) {
-    for workers in [1, 2, 8] {
-        holds!(&rt; is_answered(&rt, FEW_ENOUGH, BoardKind::Packed, workers));
-        holds!(&rt; is_answered(&rt, TOO_MANY, BoardKind::Auto, workers));
-        holds!(&rt; is_answered(&rt, TOO_MANY, BoardKind::Locked, workers));
-    }
+    let formula = sixteen_counts(&rt);
+    are_answered(&rt, formula.as_str(), 1);
+    are_answered(&rt, formula.as_str(), 2);
+    are_answered(&rt, formula.as_str(), 8);
 }

@@ -1,12 +1,10 @@
 // The forms of a report, by sets of states and by a game, with other texts beside it and without. The system and its states were written by hand.
 
-use crate::common::holds;
-use crate::unwritten::unwritten;
+use crate::common::{DEFAULTS, holds, is_text};
+use crate::unwritten::{Written, unwritten};
 use engines::engine::check_asked;
-use engines::request::{BoardKind, Check, Options, ReportForm, Wanted};
-use forms::priorities::Priorities;
+use engines::request::{Check, ReportForm, Wanted};
 use measures::observer::Silent;
-use std::alloc::Global;
 use std::process::Abort;
 use std::sync::Wait;
 use std::thread::Threads;
@@ -15,13 +13,6 @@ use std::thread::Threads;
 const SYSTEM: &str = "des (0,4,5)\n(0,\"a\",1)\n(1,\"b\",2)\n(2,\"a\",3)\n(4,\"a\",0)\n";
 
 const FORMULA: &str = "<a>true";
-
-const OPTIONS: Options = Options {
-    priorities: Priorities::Nested,
-    workers: 1,
-    shards: 16,
-    board: BoardKind::Auto,
-};
 
 /// Forms, and the reports in them.
 static FORMS: [(ReportForm, &str); 8] = [
@@ -71,34 +62,47 @@ static FORMS: [(ReportForm, &str); 8] = [
     (ReportForm::Nothing, ""),
 ];
 
-/// Whether the check writes this report, and answers yes.
-fn reports<R: Threads + Wait + Abort + Clone + Copy + Drop + Send + Sync>(
+/// A check, by sets of states or by a game.
+fn request(plain: bool) -> Check<'static> {
+    Check {
+        system: "s",
+        formula: "f",
+        options: DEFAULTS,
+        plain,
+        strict: false,
+    }
+}
+
+/// The check's answer, if it has one.
+fn answer<R: AllocGlobal + Threads + Wait + Clone + Copy + Drop + Send + Sync>(
     rt: &R,
-    alloc: Global,
+    plain: bool,
+    wanted: Wanted,
+    writers: &mut Written,
+) -> Option<bool> {
+    check_asked(
+        rt,
+        rt.alloc(),
+        &request(plain),
+        wanted,
+        SYSTEM.as_bytes(),
+        FORMULA.as_bytes(),
+        writers,
+        &Silent,
+    )
+    .ok()
+}
+
+/// The check writes this report, and answers yes.
+fn reports<R: Abort + AllocGlobal + Threads + Wait + Clone + Copy + Drop + Send + Sync>(
+    rt: &R,
     plain: bool,
     wanted: Wanted,
     text: &str,
-) -> bool {
-    let request = Check {
-        system: "s",
-        formula: "f",
-        options: OPTIONS,
-        plain,
-        strict: false,
-    };
-    let (system, formula) = (SYSTEM.as_bytes(), FORMULA.as_bytes());
-    let mut writers = unwritten(alloc);
-    let answer = check_asked(
-        rt,
-        alloc,
-        &request,
-        wanted,
-        system,
-        formula,
-        &mut writers,
-        &Silent,
-    );
-    answer.ok() == Some(true) && writers.report.as_slice() == text.as_bytes()
+) {
+    let mut writers = unwritten(rt.alloc());
+    holds!(rt; answer(rt, plain, wanted, &mut writers) == Some(true), text);
+    is_text(rt, writers.report.as_slice(), text);
 }
 
 /// The report in this form, with evidence before it or not.
@@ -114,20 +118,14 @@ fn wanted(report: ReportForm, evidence: bool) -> Wanted {
 #[test]
 fn reports_have_their_forms_by_sets(rt: HostRuntime) {
     for (form, text) in &FORMS {
-        let alone = wanted(*form, false);
-        holds!(&rt; reports(&rt, rt.alloc(), true, alone, text), text);
+        reports(&rt, true, wanted(*form, false), text);
     }
 }
 
 #[test]
 fn reports_have_their_forms_by_a_game(rt: HostRuntime) {
     for (form, text) in &FORMS {
-        let alone = wanted(*form, false);
-        holds!(&rt; reports(&rt, rt.alloc(), false, alone, text), text);
-        let beside = wanted(*form, true);
-        assert!(rt;
-            reports(&rt, rt.alloc(), false, beside, text),
-            "{text} with evidence"
-        );
+        reports(&rt, false, wanted(*form, false), text);
+        reports(&rt, false, wanted(*form, true), text);
     }
 }

@@ -1,13 +1,14 @@
 // Reports and refusals of each engine, on small systems whose answers were worked out by hand (Kozen 1983; the mCRL2 manual on regular formulas).
 
-use crate::common::{holds, same};
+use crate::common::{DEFAULTS, holds, is_beginning, is_text, repeats, ring_of, same, says};
 use engines::engine::{check, check_one, check_plain};
 use engines::error::MuError;
 use engines::request::{BoardKind, Options};
 use engines::status::status;
 use engines::writers::EvidenceWriters;
+use fixtures::answers::answer_text;
 use forms::priorities::Priorities;
-use samples::texts::{RING, repeated_text, ring};
+use samples::texts::RING;
 use samples::writers::Narrow;
 use std::alloc::{AllocError, Global};
 use std::io;
@@ -36,13 +37,6 @@ fn first_line(system: &str) -> &'static str {
         _ => "system 2 states 2 transitions initial 0\n",
     }
 }
-
-const DEFAULTS: Options = Options {
-    priorities: Priorities::Nested,
-    workers: 1,
-    shards: 16,
-    board: BoardKind::Auto,
-};
 
 const BY_TWO: Options = Options {
     priorities: Priorities::Nested,
@@ -133,6 +127,35 @@ enum Engine {
 
 static ENGINES: [Engine; 4] = [Engine::Plain, Engine::One, Engine::Game, Engine::Two];
 
+/// By a game that this many workers solve.
+fn run_game<
+    W: io::Write,
+    R: Abort + AllocGlobal + Threads + Wait + Clone + Copy + Drop + Send + Sync,
+>(rt: &R, system: &[u8], formula: &[u8], options: &Options, out: &mut W) -> Result<bool, MuError> {
+    let no_game: Option<&mut Vec<u8>> = None;
+    let none: EvidenceWriters<'_, Vec<u8>, Vec<u8>> = EvidenceWriters::Neither;
+    check(rt, rt.alloc(), system, formula, options, out, no_game, none)
+}
+
+/// By a game on one thread.
+fn run_one<
+    W: io::Write,
+    R: Abort + AllocGlobal + Threads + Wait + Clone + Copy + Drop + Send + Sync,
+>(rt: &R, system: &[u8], formula: &[u8], out: &mut W) -> Result<bool, MuError> {
+    let no_game: Option<&mut Vec<u8>> = None;
+    let none: EvidenceWriters<'_, Vec<u8>, Vec<u8>> = EvidenceWriters::Neither;
+    check_one(
+        rt,
+        rt.alloc(),
+        system,
+        formula,
+        &DEFAULTS,
+        out,
+        no_game,
+        none,
+    )
+}
+
 fn run<W: io::Write, R: Abort + AllocGlobal + Threads + Wait + Clone + Copy + Drop + Send + Sync>(
     rt: &R,
     system: &str,
@@ -140,43 +163,13 @@ fn run<W: io::Write, R: Abort + AllocGlobal + Threads + Wait + Clone + Copy + Dr
     engine: Engine,
     out: &mut W,
 ) -> Result<bool, MuError> {
-    let alloc = rt.alloc();
     let system = system.as_bytes();
     let formula = formula.as_bytes();
-    let no_game: Option<&mut Vec<u8>> = None;
-    let no_evidence: EvidenceWriters<'_, Vec<u8>, Vec<u8>> = EvidenceWriters::Neither;
     match engine {
-        Engine::Plain => check_plain(alloc, system, formula, out),
-        Engine::One => check_one(
-            rt,
-            alloc,
-            system,
-            formula,
-            &DEFAULTS,
-            out,
-            no_game,
-            no_evidence,
-        ),
-        Engine::Game => check(
-            rt,
-            alloc,
-            system,
-            formula,
-            &DEFAULTS,
-            out,
-            no_game,
-            no_evidence,
-        ),
-        Engine::Two => check(
-            rt,
-            alloc,
-            system,
-            formula,
-            &BY_TWO,
-            out,
-            no_game,
-            no_evidence,
-        ),
+        Engine::Plain => check_plain(rt.alloc(), system, formula, out),
+        Engine::One => run_one(rt, system, formula, out),
+        Engine::Game => run_game(rt, system, formula, &DEFAULTS, out),
+        Engine::Two => run_game(rt, system, formula, &BY_TWO, out),
     }
 }
 
@@ -185,58 +178,93 @@ fn word(mark: u8) -> &'static str {
 }
 
 fn count_of_yes(marks: &[u8]) -> usize {
-    marks.iter().filter(|mark| **mark == b'y').count()
+    let mut count = 0usize;
+    for mark in marks {
+        if *mark == b'y' {
+            count = count.saturating_add(1);
+        }
+    }
+    count
 }
 
-/// The lines of the states.
-fn write_states(text: &mut String, marks: &[u8]) -> Result<(), AllocError> {
-    for (state, mark) in marks.iter().enumerate() {
-        let word = word(*mark);
-        write!(text, "{state} {word}\n")?;
+/// Adds pieces to a text.
+fn add(text: &mut String, pieces: &[&str]) -> Result<(), AllocError> {
+    for piece in pieces {
+        text.push_str(piece)?;
     }
     Ok(())
 }
 
-/// The report with these marks.
-fn report_of(alloc: Global, row: &Row<'_>) -> Result<String, AllocError> {
-    let (system, _, canonical, marks) = *row;
-    let first = first_line(system);
-    let yes = count_of_yes(marks.as_bytes());
-    let states = marks.len();
-    let initial = if marks.starts_with('y') { "yes" } else { "no" };
-    let mut text = format!(in alloc;
-        "{first}formula {canonical}\nyes {yes} of {states}\ninitial {initial}\n"
-    )?;
-    write_states(&mut text, marks.as_bytes())?;
-    Ok(text)
+/// The line of a state.
+fn add_state(text: &mut String, state: usize, mark: u8) -> Result<(), AllocError> {
+    write!(text, "{state} ")?;
+    add(text, &[word(mark), "\n"])
 }
 
-/// Whether the engine answers so, and writes this.
-fn is_reported<R: Abort + AllocGlobal + Threads + Wait + Clone + Copy + Drop + Send + Sync>(
+/// The lines of the states.
+fn add_states(text: &mut String, marks: &[u8]) -> Result<(), AllocError> {
+    for state in 0..marks.len() {
+        add_state(text, state, marks[state])?;
+    }
+    Ok(())
+}
+
+/// The line that counts the states where the formula holds.
+fn add_counts(text: &mut String, marks: &[u8]) -> Result<(), AllocError> {
+    let (yes, states) = (count_of_yes(marks), marks.len());
+    write!(text, "yes {yes} of {states}\n")?;
+    Ok(())
+}
+
+/// The report with these marks.
+fn add_report(text: &mut String, row: &Row<'_>) -> Result<(), AllocError> {
+    let (system, _, canonical, marks) = *row;
+    let initial = if marks.starts_with('y') { "yes" } else { "no" };
+    add(text, &[first_line(system), "formula "])?;
+    text.push_str(canonical)?;
+    text.push_str("\n")?;
+    add_counts(text, marks.as_bytes())?;
+    add(text, &["initial ", initial, "\n"])?;
+    add_states(text, marks.as_bytes())
+}
+
+fn report_of(rt: &(impl Abort + AllocGlobal), row: &Row<'_>) -> String {
+    let mut text = String::new(rt.alloc());
+    holds!(rt; add_report(&mut text, row).is_ok());
+    text
+}
+
+/// The engine answers so, and writes this.
+fn report_by<R: Abort + AllocGlobal + Threads + Wait + Clone + Copy + Drop + Send + Sync>(
     rt: &R,
-    system: &str,
-    formula: &str,
-    engine: Engine,
+    texts: (&str, &str),
     wanted: (bool, &str),
-) -> bool {
-    let (initial, report) = wanted;
+    engine: Engine,
+) {
+    let ((system, formula), (initial, report)) = (texts, wanted);
     let mut out = Vec::new(rt.alloc());
-    let answer = run(rt, system, formula, engine, &mut out).ok();
-    answer == Some(initial) && out.as_slice() == report.as_bytes()
+    let answer = run(rt, system, formula, engine, &mut out);
+    says(rt, name(engine), &answer, initial);
+    is_text(rt, out.as_slice(), report);
+}
+
+fn name(engine: Engine) -> &'static str {
+    match engine {
+        Engine::Plain => "by sets of states",
+        Engine::One => "on one thread",
+        Engine::Game => "by one worker",
+        Engine::Two => "by two workers",
+    }
 }
 
 /// Each engine gives this report.
 fn report<R: Abort + AllocGlobal + Threads + Wait + Clone + Copy + Drop + Send + Sync>(
     rt: &R,
-    system: &str,
-    formula: &str,
+    texts: (&str, &str),
     wanted: (bool, &str),
 ) {
     for engine in &ENGINES {
-        assert!(rt;
-            is_reported(rt, system, formula, *engine, wanted),
-            "{formula} by {engine:?}"
-        );
+        report_by(rt, texts, wanted, *engine);
     }
 }
 
@@ -246,8 +274,12 @@ fn reports<R: Abort + AllocGlobal + Threads + Wait + Clone + Copy + Drop + Send 
     row: &Row<'_>,
 ) {
     let (system, formula, _, marks) = *row;
-    let text = report_of(rt.alloc(), row).expect(rt, "memory");
-    report(rt, system, formula, (marks.starts_with('y'), text.as_str()));
+    let text = report_of(rt, row);
+    report(
+        rt,
+        (system, formula),
+        (marks.starts_with('y'), text.as_str()),
+    );
 }
 
 #[test]
@@ -258,11 +290,14 @@ fn reports_what_was_worked_out(rt: HostRuntime) {
 }
 
 /// The code and place of a refusal.
-pub fn outcome_text(alloc: Global, answer: &Result<bool, MuError>) -> Result<String, AllocError> {
-    match answer {
-        Ok(_) => String::from_str(alloc, "answered"),
-        Err(error) => error.to_string(alloc),
-    }
+fn outcome_text(rt: &(impl Abort + AllocGlobal), answer: &Result<bool, MuError>) -> String {
+    answer_text(rt.alloc(), answer).expect(rt, "memory")
+}
+
+/// The refusal has this code and place.
+pub fn refuses_as(rt: &(impl Abort + AllocGlobal), answer: &Result<bool, MuError>, refusal: &str) {
+    let text = outcome_text(rt, answer);
+    same(rt, "refusal", text.as_str(), refusal);
 }
 
 /// Systems, formulas, and what is refused.
@@ -297,9 +332,8 @@ fn refuses_by<R: Abort + AllocGlobal + Threads + Wait + Clone + Copy + Drop + Se
     let (system, formula) = texts;
     let mut out = Vec::new(rt.alloc());
     let answer = run(rt, system, formula, engine, &mut out);
-    assert!(rt; out.is_empty(), "written by {engine:?}");
-    let text = outcome_text(rt.alloc(), &answer).expect(rt, "memory");
-    same(rt, "refusal", text.as_str(), refusal);
+    holds!(rt; out.is_empty(), name(engine));
+    refuses_as(rt, &answer, refusal);
 }
 
 fn refuses<R: Abort + AllocGlobal + Threads + Wait + Clone + Copy + Drop + Send + Sync>(
@@ -318,7 +352,11 @@ fn passes_refusals_on(rt: HostRuntime) {
     for (system, formula, refusal) in &REFUSED {
         refuses(&rt, (system, formula), refusal, &ENGINES);
     }
-    let negations = repeated_text(rt.alloc(), "", "!", 257, "true").expect(&rt, "memory");
+}
+
+#[test]
+fn passes_the_refusal_of_many_negations_on(rt: HostRuntime) {
+    let negations = repeats(&rt, "", "!", 257, "true");
     refuses(
         &rt,
         (RING, negations.as_str()),
@@ -337,27 +375,34 @@ static TOO_LARGE: [(&str, Parts, &str); 3] = [
     (RING, ("", "nu X. mu X. ", 16, "true"), "N2"),
 ];
 
-fn formula_of(alloc: Global, parts: &Parts) -> Result<String, AllocError> {
+fn formula_of(rt: &(impl Abort + AllocGlobal), parts: &Parts) -> String {
     let (head, part, times, tail) = *parts;
-    repeated_text(alloc, head, part, times, tail)
+    repeats(rt, head, part, times, tail)
+}
+
+/// The ways to check by a game.
+static BY_GAMES: [Engine; 3] = [Engine::One, Engine::Game, Engine::Two];
+
+fn is_too_large<R: Abort + AllocGlobal + Threads + Wait + Clone + Copy + Drop + Send + Sync>(
+    rt: &R,
+    system: &str,
+    parts: &Parts,
+    refusal: &str,
+) {
+    let formula = formula_of(rt, parts);
+    refuses(rt, (system, formula.as_str()), refusal, &BY_GAMES);
 }
 
 #[test]
 fn refuses_what_is_too_large_for_a_game(rt: HostRuntime) {
     for (system, parts, refusal) in &TOO_LARGE {
-        let formula = formula_of(rt.alloc(), parts).expect(&rt, "a formula");
-        refuses(
-            &rt,
-            (system, formula.as_str()),
-            refusal,
-            &[Engine::One, Engine::Game, Engine::Two],
-        );
+        is_too_large(&rt, system, parts, refusal);
     }
 }
 
 /// Formulas at a limit: what each is written as, with how many parentheses before its end, and the marks on the ring. They
 /// have as many nodes, as many binders and as many negations as may be.
-static AT_A_LIMIT: [(Parts, Parts, usize, &str, &str); 3] = [
+static AT_A_LIMIT: [Limit; 3] = [
     (
         ("<c><c><c><", "(a+b).", 9, "(a+b)>true"),
         ("<c><c><c><", "((a + b) . ", 9, "(a + b)"),
@@ -375,42 +420,40 @@ static AT_A_LIMIT: [(Parts, Parts, usize, &str, &str); 3] = [
     (("", "!", 256, "true"), ("", "!", 256, "true"), 0, "", "yy"),
 ];
 
-fn written_as(
-    alloc: Global,
-    parts: &Parts,
-    closing: usize,
-    end: &str,
-) -> Result<String, AllocError> {
-    let open = formula_of(alloc, parts)?;
-    repeated_text(alloc, open.as_str(), ")", closing, end)
+fn written_as(rt: &(impl Abort + AllocGlobal), parts: &Parts, closing: usize, end: &str) -> String {
+    let open = formula_of(rt, parts);
+    repeats(rt, open.as_str(), ")", closing, end)
 }
 
-fn reports_parts<R: Abort + AllocGlobal + Threads + Wait + Clone + Copy + Drop + Send + Sync>(
+/// A formula at a limit.
+type Limit = (Parts, Parts, usize, &'static str, &'static str);
+
+fn is_answered<R: Abort + AllocGlobal + Threads + Wait + Clone + Copy + Drop + Send + Sync>(
     rt: &R,
-    parts: &Parts,
-    canonical: &str,
-    marks: &str,
+    limit: &Limit,
 ) {
-    let formula = formula_of(rt.alloc(), parts).expect(rt, "a formula");
-    reports(rt, &(RING, formula.as_str(), canonical, marks))
+    let (parts, written, closing, end, marks) = limit;
+    let formula = formula_of(rt, parts);
+    let canonical = written_as(rt, written, *closing, end);
+    reports(rt, &(RING, formula.as_str(), canonical.as_str(), marks))
 }
 
 #[test]
 fn answers_formulas_at_a_limit(rt: HostRuntime) {
-    for (parts, written, closing, end, marks) in &AT_A_LIMIT {
-        let canonical = written_as(rt.alloc(), written, *closing, end).expect(&rt, "memory");
-        reports_parts(&rt, parts, canonical.as_str(), marks);
+    for limit in &AT_A_LIMIT {
+        is_answered(&rt, limit);
     }
 }
 
-/// Whether the report on a million states without transitions, of which `true` holds, is as it has to be.
+/// The report on a million states without transitions, of which `true` holds, is as it has to be.
 fn reports_a_million<R: Abort + AllocGlobal + Threads + Wait + Clone + Copy + Drop + Send + Sync>(
     rt: &R,
     engine: Engine,
-) -> bool {
+) {
     let mut out = Vec::new(rt.alloc());
-    let answer = run(rt, "des (0,0,1000000)\n", "true", engine, &mut out).ok();
-    answer == Some(true) && is_of_a_million(out.as_slice())
+    let answer = run(rt, "des (0,0,1000000)\n", "true", engine, &mut out);
+    says(rt, name(engine), &answer, true);
+    holds!(rt; is_of_a_million(out.as_slice()), name(engine));
 }
 
 fn is_of_a_million(report: &[u8]) -> bool {
@@ -425,21 +468,25 @@ fn is_of_a_million(report: &[u8]) -> bool {
 
 #[test]
 fn a_million_states_by_sets(rt: HostRuntime) {
-    holds!(&rt; reports_a_million(&rt, Engine::Plain));
+    reports_a_million(&rt, Engine::Plain)
 }
 
 #[test]
 fn a_million_states_by_a_game_on_one_thread(rt: HostRuntime) {
-    holds!(&rt; reports_a_million(&rt, Engine::One));
+    reports_a_million(&rt, Engine::One)
 }
 
 #[test]
 fn a_million_states_by_a_game(rt: HostRuntime) {
-    holds!(&rt; reports_a_million(&rt, Engine::Game));
+    reports_a_million(&rt, Engine::Game)
 }
 
 /// The report on a ring of 2,500 states, at each of which the formula holds.
-pub fn report_of_the_ring(alloc: Global) -> Result<String, AllocError> {
+pub fn ring_report(rt: &(impl Abort + AllocGlobal)) -> String {
+    report_of_the_ring(rt.alloc()).expect(rt, "memory")
+}
+
+fn report_of_the_ring(alloc: Global) -> Result<String, AllocError> {
     let head =
         "system 2500 states 2500 transitions initial 0\nformula [true*]<true*><a>true\nyes 2500 of 2500\ninitial yes\n";
     let mut want = String::from_str(alloc, head)?;
@@ -451,10 +498,10 @@ pub fn report_of_the_ring(alloc: Global) -> Result<String, AllocError> {
 
 #[test]
 fn reports_a_ring_of_many_states(rt: HostRuntime) {
-    let system = ring(rt.alloc(), 2500).expect(&rt, "memory");
-    let want = report_of_the_ring(rt.alloc()).expect(&rt, "memory");
-    let formula = "[true*]<true*>(<a>true)";
-    report(&rt, system.as_str(), formula, (true, want.as_str()));
+    let system = ring_of(&rt, 2500);
+    let want = ring_report(&rt);
+    let texts = (system.as_str(), "[true*]<true*>(<a>true)");
+    report(&rt, texts, (true, want.as_str()));
 }
 
 /// A writer with this little room has a beginning of the report.
@@ -466,10 +513,19 @@ fn is_cut<R: Abort + AllocGlobal + Threads + Wait + Clone + Copy + Drop + Send +
 ) {
     let mut out = Narrow::new(rt.alloc(), want.len(), left);
     let answer = run(rt, RING, "<a>true", engine, &mut out);
-    assert!(rt; status(&answer) == 3, "{left} by {engine:?}");
-    holds!(rt; out.taken.len() == left && want.as_bytes().starts_with(out.taken.as_slice()));
-    let text = outcome_text(rt.alloc(), &answer).expect(rt, "memory");
-    same(rt, "refusal", text.as_str(), "W1");
+    holds!(rt; status(&answer) == 3, name(engine));
+    is_beginning(rt, out.taken.as_slice(), want, left);
+    refuses_as(rt, &answer, "W1");
+}
+
+fn are_cut<R: Abort + AllocGlobal + Threads + Wait + Clone + Copy + Drop + Send + Sync>(
+    rt: &R,
+    want: &str,
+    left: usize,
+) {
+    for engine in &ENGINES {
+        is_cut(rt, want, left, *engine);
+    }
 }
 
 #[test]
@@ -477,8 +533,6 @@ fn a_write_fault_leaves_a_beginning(rt: HostRuntime) {
     let want =
         "system 2 states 2 transitions initial 0\nformula <a>true\nyes 1 of 2\ninitial yes\n0 yes\n1 no\n";
     for left in 0..want.len() {
-        for engine in &ENGINES {
-            is_cut(&rt, want, left, *engine);
-        }
+        are_cut(&rt, want, left);
     }
 }

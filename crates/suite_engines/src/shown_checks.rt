@@ -1,25 +1,18 @@
 // What a check writes where a witness is wanted. The parts are worked out by hand: the winner's moves and all of the opponent's.
 
-use crate::common::holds;
+use crate::common::{DEFAULTS, holds, is_beginning, is_text, is_write_fault, repeats, says};
 use engines::engine::check_asked;
 use engines::error::MuError;
-use engines::request::{BoardKind, Check, Options, ReportForm, Wanted, WitnessForm};
+use engines::request::{Check, ReportForm, Wanted, WitnessForm};
 use engines::writers::Writers;
 use fixtures::texts::{EVEN_OF_STEP, ODD_OF_STEP, STEP};
-use forms::priorities::Priorities;
 use measures::observer::Silent;
 use samples::texts::RING;
 use samples::writers::{AMPLE, Narrow};
 use std::alloc::Global;
+use std::process::Abort;
 use std::sync::Wait;
 use std::thread::Threads;
-
-const OPTIONS: Options = Options {
-    priorities: Priorities::Nested,
-    workers: 1,
-    shards: 16,
-    board: BoardKind::Auto,
-};
 
 const ALL: Wanted = Wanted {
     game: true,
@@ -99,6 +92,17 @@ fn ample_writers(alloc: Global) -> Narrows {
     }
 }
 
+/// A check by sets of states or by a game.
+fn request(plain: bool) -> Check<'static> {
+    Check {
+        system: "s",
+        formula: "f",
+        options: DEFAULTS,
+        plain,
+        strict: false,
+    }
+}
+
 fn run<R: Threads + Wait + Clone + Copy + Drop + Send + Sync>(
     rt: &R,
     alloc: Global,
@@ -106,17 +110,10 @@ fn run<R: Threads + Wait + Clone + Copy + Drop + Send + Sync>(
     wanted: Wanted,
     writers: &mut Narrows,
 ) -> Result<bool, MuError> {
-    let request = Check {
-        system: "s",
-        formula: "f",
-        options: OPTIONS,
-        plain: false,
-        strict: false,
-    };
     check_asked(
         rt,
         alloc,
-        &request,
+        &request(false),
         wanted,
         row.system.as_bytes(),
         row.formula.as_bytes(),
@@ -125,105 +122,177 @@ fn run<R: Threads + Wait + Clone + Copy + Drop + Send + Sync>(
     )
 }
 
-/// Whether the writer has just these bytes.
-fn has(writer: &Narrow, text: &str) -> bool {
-    writer.taken.as_slice() == text.as_bytes()
+/// The writer has just these bytes.
+fn has(rt: &impl Abort, writer: &Narrow, text: &str) {
+    is_text(rt, writer.taken.as_slice(), text)
+}
+
+fn has_nothing(rt: &impl Abort, writer: &Narrow) {
+    holds!(rt; writer.taken.is_empty());
+}
+
+fn has_something(rt: &impl Abort, writer: &Narrow) {
+    holds!(rt; !writer.taken.is_empty());
+}
+
+/// No game, evidence or witness was written, but a report.
+fn has_the_report_alone(rt: &impl Abort, writers: &Narrows) {
+    has_nothing(rt, &writers.game);
+    has_nothing(rt, &writers.even);
+    has_nothing(rt, &writers.odd);
+    has_nothing(rt, &writers.witness);
+    has_something(rt, &writers.report);
+}
+
+/// Writes what is wanted of a check that answers as it has to.
+fn answers<R: Abort + AllocGlobal + Threads + Wait + Clone + Copy + Drop + Send + Sync>(
+    rt: &R,
+    row: &Row,
+    wanted: Wanted,
+    writers: &mut Narrows,
+) {
+    let answer = run(rt, rt.alloc(), row, wanted, writers);
+    says(rt, row.formula, &answer, row.holds);
+}
+
+/// A witness and a report, with evidence or without.
+fn with_witness(evidence: bool) -> Wanted {
+    Wanted {
+        game: false,
+        evidence,
+        witness: Some(WitnessForm::System),
+        report: ReportForm::Whole,
+    }
+}
+
+fn has_witness<R: Abort + AllocGlobal + Threads + Wait + Clone + Copy + Drop + Send + Sync>(
+    rt: &R,
+    row: &Row,
+    evidence: bool,
+) {
+    let mut writers = ample_writers(rt.alloc());
+    answers(rt, row, with_witness(evidence), &mut writers);
+    has(rt, &writers.witness, row.part);
+    has_nothing(rt, &writers.game);
+    holds!(rt; writers.even.taken.is_empty() != evidence);
+    has_something(rt, &writers.report);
 }
 
 #[test]
 fn a_witness_is_what_the_answer_rests_on(rt: HostRuntime) {
     for row in &ROWS {
-        for evidence in [true, false] {
-            let mut writers = ample_writers(rt.alloc());
-            let wanted = Wanted {
-                game: false,
-                evidence,
-                witness: Some(WitnessForm::System),
-                report: ReportForm::Whole,
-            };
-            let answer = run(&rt, rt.alloc(), row, wanted, &mut writers);
-            holds!(&rt; answer.ok() == Some(row.holds), row.formula);
-            holds!(&rt; has(&writers.witness, row.part), row.formula);
-            holds!(&rt; writers.game.taken.is_empty());
-            holds!(&rt; writers.even.taken.is_empty() != evidence);
-            holds!(&rt; !writers.report.taken.is_empty());
-        }
+        has_witness(&rt, row, true);
+        has_witness(&rt, row, false);
     }
+}
+
+/// The text is a drawing with these edges.
+fn is_drawing(rt: &(impl Abort + AllocGlobal), text: &[u8], edges: &str) {
+    let head =
+        "digraph witness {\n  rankdir=LR;\n  node [shape=circle];\n  0 [shape=doublecircle];\n";
+    let wanted = repeats(rt, head, edges, 1, "}\n");
+    is_text(rt, text, wanted.as_str());
+}
+
+const DRAWING: Wanted = Wanted {
+    game: false,
+    evidence: false,
+    witness: Some(WitnessForm::Drawing),
+    report: ReportForm::Whole,
+};
+
+fn has_drawing<R: Abort + AllocGlobal + Threads + Wait + Clone + Copy + Drop + Send + Sync>(
+    rt: &R,
+    row: &Row,
+) {
+    let mut writers = ample_writers(rt.alloc());
+    answers(rt, row, DRAWING, &mut writers);
+    is_drawing(rt, writers.witness.taken.as_slice(), row.edges);
 }
 
 #[test]
 fn a_drawing_has_the_same_edges(rt: HostRuntime) {
-    let head =
-        b"digraph witness {\n  rankdir=LR;\n  node [shape=circle];\n  0 [shape=doublecircle];\n";
     for row in &ROWS {
-        let mut writers = ample_writers(rt.alloc());
-        let wanted = Wanted {
-            witness: Some(WitnessForm::Drawing),
-            ..NONE
-        };
-        let answer = run(&rt, rt.alloc(), row, wanted, &mut writers);
-        holds!(&rt; answer.ok() == Some(row.holds));
-        let text = writers.witness.taken.as_slice();
-        let rest = text.strip_prefix(head.as_slice());
-        let rest = rest.and_then(|rest| rest.strip_suffix(b"}\n"));
-        holds!(&rt; rest == Some(row.edges.as_bytes()), row.formula);
+        has_drawing(&rt, row);
     }
+}
+
+fn has_no_more<R: Abort + AllocGlobal + Threads + Wait + Clone + Copy + Drop + Send + Sync>(
+    rt: &R,
+    row: &Row,
+) {
+    let mut writers = ample_writers(rt.alloc());
+    answers(rt, row, NONE, &mut writers);
+    has_the_report_alone(rt, &writers);
 }
 
 #[test]
 fn what_is_not_wanted_is_not_written(rt: HostRuntime) {
     for row in &ROWS {
-        let mut writers = ample_writers(rt.alloc());
-        let answer = run(&rt, rt.alloc(), row, NONE, &mut writers);
-        holds!(&rt; answer.ok() == Some(row.holds));
-        holds!(&rt; writers.game.taken.is_empty() && writers.witness.taken.is_empty());
-        holds!(&rt; writers.even.taken.is_empty() && writers.odd.taken.is_empty());
-        holds!(&rt; !writers.report.taken.is_empty());
+        has_no_more(&rt, row);
     }
+}
+
+/// With so little room for the witness no report is written.
+fn witness_fails<R: Abort + AllocGlobal + Threads + Wait + Clone + Copy + Drop + Send + Sync>(
+    rt: &R,
+    row: &Row,
+    room: usize,
+) {
+    let mut writers = ample_writers(rt.alloc());
+    writers.witness = Narrow::new(rt.alloc(), 9, room);
+    let answer = run(rt, rt.alloc(), row, ALL, &mut writers);
+    is_write_fault(rt, &answer);
+    has_cut_witness(rt, &writers, row, room);
+}
+
+fn has_cut_witness(rt: &impl Abort, writers: &Narrows, row: &Row, room: usize) {
+    has(rt, &writers.game, STEP);
+    has(rt, &writers.even, EVEN_OF_STEP);
+    has(rt, &writers.odd, ODD_OF_STEP);
+    is_beginning(rt, writers.witness.taken.as_slice(), row.part, room);
+    has_nothing(rt, &writers.report);
 }
 
 #[test]
 fn a_failed_witness_ends_the_check(rt: HostRuntime) {
     let row = &ROWS[0];
     for room in 0..row.part.len() {
-        let mut writers = ample_writers(rt.alloc());
-        writers.witness = Narrow::new(rt.alloc(), 9, room);
-        let answer = run(&rt, rt.alloc(), row, ALL, &mut writers);
-        holds!(&rt; matches!(answer, Err(MuError::Write(_))));
-        holds!(&rt; has(&writers.game, STEP));
-        holds!(&rt; has(&writers.even, EVEN_OF_STEP) && has(&writers.odd, ODD_OF_STEP));
-        holds!(&rt; writers.witness.taken.len() == room);
-        holds!(&rt; row.part
-                .as_bytes()
-                .starts_with(writers.witness.taken.as_slice()));
-        holds!(&rt; writers.report.taken.is_empty());
+        witness_fails(&rt, row, room);
     }
+}
+
+/// The answer by sets of states, if there is one.
+fn answer_by_sets<R: AllocGlobal + Threads + Wait + Clone + Copy + Drop + Send + Sync>(
+    rt: &R,
+    row: &Row,
+    writers: &mut Narrows,
+) -> Option<bool> {
+    check_asked(
+        rt,
+        rt.alloc(),
+        &request(true),
+        ALL,
+        row.system.as_bytes(),
+        row.formula.as_bytes(),
+        writers,
+        &Silent,
+    )
+    .ok()
+}
+
+fn has_sets_alone<R: Abort + AllocGlobal + Threads + Wait + Clone + Copy + Drop + Send + Sync>(
+    rt: &R,
+    row: &Row,
+) {
+    let mut writers = ample_writers(rt.alloc());
+    holds!(rt; answer_by_sets(rt, row, &mut writers) == Some(row.holds), row.formula);
+    has_the_report_alone(rt, &writers);
 }
 
 #[test]
 fn sets_of_states_give_the_report_alone(rt: HostRuntime) {
-    let request = Check {
-        system: "system",
-        formula: "formula",
-        options: OPTIONS,
-        plain: true,
-        strict: false,
-    };
     for row in &ROWS {
-        let mut writers = ample_writers(rt.alloc());
-        let answer = check_asked(
-            &rt,
-            rt.alloc(),
-            &request,
-            ALL,
-            row.system.as_bytes(),
-            row.formula.as_bytes(),
-            &mut writers,
-            &Silent,
-        );
-        holds!(&rt; answer.ok() == Some(row.holds));
-        holds!(&rt; writers.game.taken.is_empty() && writers.witness.taken.is_empty());
-        holds!(&rt; writers.even.taken.is_empty() && writers.odd.taken.is_empty());
-        holds!(&rt; !writers.report.taken.is_empty());
+        has_sets_alone(&rt, row);
     }
 }

@@ -1,17 +1,16 @@
 // What a watcher is told of a check: each stage that its way has, and both texts once they are read.
 
-use crate::common::holds;
-use crate::unwritten::unwritten;
+use crate::common::{DEFAULTS, holds, holds_of};
+use crate::unwritten::{Written, unwritten};
 use calculus::closed::Closed;
 use engines::engine::check_asked;
-use engines::error::MuError;
-use engines::request::{BoardKind, Check, Options, ReportForm, Wanted};
+use engines::request::{Check, ReportForm, Wanted};
 use engines::watch::Watcher;
-use forms::priorities::Priorities;
 use gauge::{Gauge, Reading};
 use lts::Lts;
 use measures::observer::{Observer, Stage};
 use samples::texts::RING;
+use std::process::Abort;
 use std::sync::Wait;
 use std::sync::atomic::{AtomicU64, Ordering};
 use std::thread::Threads;
@@ -69,13 +68,6 @@ impl Watcher for Told {
     }
 }
 
-const OPTIONS: Options = Options {
-    priorities: Priorities::Nested,
-    workers: 1,
-    shards: 16,
-    board: BoardKind::Auto,
-};
-
 const NOTHING: Wanted = Wanted {
     game: false,
     evidence: false,
@@ -83,59 +75,89 @@ const NOTHING: Wanted = Wanted {
     report: ReportForm::Whole,
 };
 
-/// The answer of a check on the ring of two states, by sets of states where it is plain, of which this watcher is told.
-fn checked<R: AllocGlobal + Threads + Wait + Clone + Copy + Drop + Send + Sync>(
+/// A check by a game or by sets of states.
+fn request(plain: bool) -> Check<'static> {
+    Check {
+        system: "s",
+        formula: "f",
+        options: DEFAULTS,
+        plain,
+        strict: false,
+    }
+}
+
+/// The answer of a check on the ring of two states, if it has one.
+fn answer<R: AllocGlobal + Threads + Wait + Clone + Copy + Drop + Send + Sync>(
     rt: &R,
     plain: bool,
     wanted: Wanted,
     told: &Told,
-) -> Result<bool, MuError> {
-    let request = Check {
-        system: "s",
-        formula: "f",
-        options: OPTIONS,
-        plain,
-        strict: false,
-    };
-    let mut writers = unwritten(rt.alloc());
+    writers: &mut Written,
+) -> Option<bool> {
     check_asked(
         rt,
         rt.alloc(),
-        &request,
+        &request(plain),
         wanted,
         RING.as_bytes(),
         b"<a>true".as_slice(),
-        &mut writers,
+        writers,
         told,
     )
+    .ok()
+}
+
+/// Such a check, by sets of states where it is plain, of which this watcher is told, answers yes.
+fn is_checked<R: Abort + AllocGlobal + Threads + Wait + Clone + Copy + Drop + Send + Sync>(
+    rt: &R,
+    plain: bool,
+    wanted: Wanted,
+    told: &Told,
+) {
+    let mut writers = unwritten(rt.alloc());
+    holds!(rt; answer(rt, plain, wanted, told, &mut writers) == Some(true));
+}
+
+/// The stages were told this often.
+fn has_stages(rt: &impl Abort, told: &Told, digits: u64) {
+    let found = told.digits.load(Ordering::SeqCst);
+    holds_of(rt, found == digits, "stages", found);
+}
+
+/// The ring's two states were read once.
+fn has_states(rt: &impl Abort, told: &Told) {
+    holds!(rt; told.states.load(Ordering::SeqCst) == 2);
 }
 
 #[test]
 fn a_check_by_a_game_tells_of_its_stages(rt: HostRuntime) {
     let told = Told::new();
-    holds!(&rt; checked(&rt, false, NOTHING, &told).ok() == Some(true));
+    is_checked(&rt, false, NOTHING, &told);
     // A ranking that is guessed is good, so that no game is built.
-    holds!(&rt; told.digits.load(Ordering::SeqCst) == 1_001_011);
-    holds!(&rt; told.states.load(Ordering::SeqCst) == 2);
+    has_stages(&rt, &told, 1_001_011);
+    has_states(&rt, &told);
 }
 
 #[test]
 fn a_check_by_sets_tells_of_its_stages(rt: HostRuntime) {
     let told = Told::new();
-    holds!(&rt; checked(&rt, true, NOTHING, &told).ok() == Some(true));
-    holds!(&rt; told.digits.load(Ordering::SeqCst) == 1_100_011);
-    holds!(&rt; told.states.load(Ordering::SeqCst) == 2);
+    is_checked(&rt, true, NOTHING, &told);
+    has_stages(&rt, &told, 1_100_011);
+    has_states(&rt, &told);
 }
+
+const EVIDENCE: Wanted = Wanted {
+    game: false,
+    evidence: true,
+    witness: None,
+    report: ReportForm::Whole,
+};
 
 #[test]
 fn a_check_with_evidence_tells_that_it_is_made(rt: HostRuntime) {
     let told = Told::new();
-    let wanted = Wanted {
-        evidence: true,
-        ..NOTHING
-    };
-    holds!(&rt; checked(&rt, false, wanted, &told).ok() == Some(true));
-    holds!(&rt; told.digits.load(Ordering::SeqCst) == 11_001_111);
+    is_checked(&rt, false, EVIDENCE, &told);
+    has_stages(&rt, &told, 11_001_111);
     // Two states with two nodes each are built.
     let whole = Reading { done: 4, whole: 4 };
     holds!(&rt; told.gauge.reading() == Some(whole));

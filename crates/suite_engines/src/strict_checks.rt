@@ -1,25 +1,17 @@
 // Checks that are strict about the words of their formulas, and the same without. Which words are on no transition was read off the system.
 
-use crate::common::holds;
+use crate::common::{DEFAULTS, repeats, same};
 use crate::unwritten::{Written, unwritten};
 use engines::engine::check_asked;
 use engines::error::MuError;
-use engines::request::{BoardKind, Check, Options, ReportForm, Wanted};
-use forms::priorities::Priorities;
+use engines::request::{Check, ReportForm, Wanted};
 use measures::observer::Silent;
-use samples::texts::repeated_text;
 use std::alloc::{AllocError, Global};
+use std::process::Abort;
 use std::sync::Wait;
 use std::thread::Threads;
 
 const SYSTEM: &str = "des (0,3,2)\n(0,\"a\",1)\n(1,\"b|c\",0)\n(1,\"send(1)\",1)\n";
-
-const OPTIONS: Options = Options {
-    priorities: Priorities::Nested,
-    workers: 1,
-    shards: 16,
-    board: BoardKind::Auto,
-};
 
 const WANTED: Wanted = Wanted {
     game: true,
@@ -89,29 +81,46 @@ fn check(plain: bool, strict: bool) -> Check<'static> {
     Check {
         system: "s",
         formula: "f",
-        options: OPTIONS,
+        options: DEFAULTS,
         plain,
         strict,
     }
 }
 
+/// A check of the formula comes to this.
+fn comes_to<R: Abort + AllocGlobal + Threads + Wait + Clone + Copy + Drop + Send + Sync>(
+    rt: &R,
+    request: &Check<'_>,
+    formula: &str,
+    wanted: &str,
+) {
+    let found = outcome(rt, rt.alloc(), request, formula).expect(rt, "memory");
+    same(rt, formula, found.as_str(), wanted);
+}
+
+/// By sets of states and by a game it comes to this where it isn't strict, and to that where it is.
+fn come_to<R: Abort + AllocGlobal + Threads + Wait + Clone + Copy + Drop + Send + Sync>(
+    rt: &R,
+    formula: &str,
+    lax: &str,
+    strict: &str,
+) {
+    comes_to(rt, &check(false, false), formula, lax);
+    comes_to(rt, &check(false, true), formula, strict);
+    comes_to(rt, &check(true, false), formula, lax);
+    comes_to(rt, &check(true, true), formula, strict);
+}
+
 #[test]
 fn a_strict_check_refuses_the_first_word_on_no_transition(rt: HostRuntime) {
     for (formula, lax, strict) in &ROWS {
-        for plain in [false, true] {
-            let found = outcome(&rt, rt.alloc(), &check(plain, false), formula);
-            holds!(&rt; found.expect(&rt, "memory").as_str() == *lax, formula);
-            let found = outcome(&rt, rt.alloc(), &check(plain, true), formula);
-            holds!(&rt; found.expect(&rt, "memory").as_str() == *strict, formula);
-        }
+        come_to(&rt, formula, lax, strict);
     }
 }
 
 #[test]
 fn a_word_is_refused_before_the_normal_form(rt: HostRuntime) {
-    let formula = repeated_text(rt.alloc(), "<", "(a + d) . ", 13, "a>true").expect(&rt, "memory");
-    let found = outcome(&rt, rt.alloc(), &check(false, false), formula.as_str());
-    holds!(&rt; found.expect(&rt, "memory").as_str() == "N1");
-    let found = outcome(&rt, rt.alloc(), &check(false, true), formula.as_str());
-    holds!(&rt; found.expect(&rt, "memory").as_str() == "L1 at offset 6");
+    let formula = repeats(&rt, "<", "(a + d) . ", 13, "a>true");
+    comes_to(&rt, &check(false, false), formula.as_str(), "N1");
+    comes_to(&rt, &check(false, true), formula.as_str(), "L1 at offset 6");
 }

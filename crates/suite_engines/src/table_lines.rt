@@ -1,28 +1,21 @@
 // Lines of tables, on a system of two states whose answers were worked out by hand.
 
-use crate::common::holds;
+use crate::common::{DEFAULTS, holds, is_text, system_of};
 use calculus::closed::Closed;
-use engines::request::{BoardKind, Options, Table};
+use engines::request::Table;
 use engines::table::{table_line, table_line_seen};
 use engines::watch::Watcher;
-use forms::priorities::Priorities;
 use gauge::Gauge;
-use lts::{Lts, read_aut};
+use lts::Lts;
 use measures::observer::{Observer, Stage};
 use samples::texts::RING;
 use samples::writers::{AtEnd, Narrow};
 use std::alloc::Global;
+use std::io::Write;
 use std::process::Abort;
 use std::sync::Wait;
 use std::sync::atomic::{AtomicU64, Ordering};
 use std::thread::Threads;
-
-const OPTIONS: Options = Options {
-    priorities: Priorities::Nested,
-    workers: 1,
-    shards: 16,
-    board: BoardKind::Auto,
-};
 
 /// The text of a formula, its line, and the status that it comes to.
 static LINES: [(&str, &str, u8); 12] = [
@@ -68,22 +61,36 @@ fn table(alloc: Global, plain: bool, strict: bool) -> Table<'static> {
     Table {
         system: "s",
         formulas: Vec::new(alloc),
-        options: OPTIONS,
+        options: DEFAULTS,
         plain,
         strict,
     }
 }
 
-/// The line of a formula.
-fn line_of<R: AllocGlobal + Threads + Wait + Clone + Copy + Drop + Send + Sync>(
+/// Writes the line of a formula, and answers its status.
+fn line_of<W: Write, R: AllocGlobal + Threads + Wait + Clone + Copy + Drop + Send + Sync>(
     rt: &R,
     system: &Lts,
     request: &Table<'_>,
     formula: &str,
-    out: &mut Vec<u8>,
+    out: &mut W,
 ) -> Option<u8> {
     let alloc = rt.alloc();
     table_line(rt, alloc, system, request, "f.mcf", formula.as_bytes(), out).ok()
+}
+
+/// The formula has this line, and answers its status.
+fn tells_line<R: Abort + AllocGlobal + Threads + Wait + Clone + Copy + Drop + Send + Sync>(
+    rt: &R,
+    system: &Lts,
+    request: &Table<'_>,
+    formula: &str,
+    line: &str,
+) -> Option<u8> {
+    let mut out = Vec::new(rt.alloc());
+    let status = line_of(rt, system, request, formula, &mut out);
+    is_text(rt, out.as_slice(), line);
+    status
 }
 
 /// The formula has this line and this status, by sets of states or by the game.
@@ -94,72 +101,57 @@ fn tells<R: Abort + AllocGlobal + Threads + Wait + Clone + Copy + Drop + Send + 
     row: &(&str, &str, u8),
 ) {
     let (formula, line, status) = *row;
-    let mut out = Vec::new(rt.alloc());
-    let answer = line_of(
-        rt,
-        system,
-        &table(rt.alloc(), plain, false),
-        formula,
-        &mut out,
-    );
-    holds!(rt; answer == Some(status), formula);
-    holds!(rt; out.as_slice() == line.as_bytes(), formula);
+    let request = table(rt.alloc(), plain, false);
+    let found = tells_line(rt, system, &request, formula, line);
+    holds!(rt; found == Some(status), formula);
 }
 
 #[test]
 fn lines_are_those_worked_out(rt: HostRuntime) {
-    let system = read_aut(rt.alloc(), RING.as_bytes()).expect(&rt, "a system");
+    let system = system_of(&rt, RING);
     for row in &LINES {
         tells(&rt, &system, true, row);
         tells(&rt, &system, false, row);
     }
 }
 
+/// The formula has the one line where the table isn't strict, and the other where it is.
+fn tells_strictly<R: Abort + AllocGlobal + Threads + Wait + Clone + Copy + Drop + Send + Sync>(
+    rt: &R,
+    system: &Lts,
+    plain: bool,
+    row: &(&str, &str, &str),
+) {
+    let (formula, lax, strict) = *row;
+    tells_line(rt, system, &table(rt.alloc(), plain, false), formula, lax);
+    tells_line(rt, system, &table(rt.alloc(), plain, true), formula, strict);
+}
+
 #[test]
 fn a_strict_table_refuses_a_word_on_no_transition(rt: HostRuntime) {
-    let system = read_aut(rt.alloc(), RING.as_bytes()).expect(&rt, "a system");
-    for (formula, lax, strict) in &STRICT {
-        for plain in [true, false] {
-            let mut out = Vec::new(rt.alloc());
-            line_of(
-                &rt,
-                &system,
-                &table(rt.alloc(), plain, false),
-                formula,
-                &mut out,
-            );
-            holds!(&rt; out.as_slice() == lax.as_bytes(), formula);
-            let mut out = Vec::new(rt.alloc());
-            line_of(
-                &rt,
-                &system,
-                &table(rt.alloc(), plain, true),
-                formula,
-                &mut out,
-            );
-            holds!(&rt; out.as_slice() == strict.as_bytes(), formula);
-        }
+    let system = system_of(&rt, RING);
+    for row in &STRICT {
+        tells_strictly(&rt, &system, true, row);
+        tells_strictly(&rt, &system, false, row);
     }
+}
+
+fn is_cut<R: Abort + AllocGlobal + Threads + Wait + Clone + Copy + Drop + Send + Sync>(
+    rt: &R,
+    system: &Lts,
+) {
+    let mut out = Narrow::new(rt.alloc(), 3, 10);
+    out.at_end = AtEnd::TakesNothing;
+    let request = table(rt.alloc(), true, false);
+    holds!(rt; line_of(rt, system, &request, "<a>true", &mut out).is_none());
+    is_text(rt, out.taken.as_slice(), "yes 1 of 2");
 }
 
 /// A line that isn't written whole is told, and a beginning of it is written.
 #[test]
 fn failed_writes_are_told(rt: HostRuntime) {
-    let system = read_aut(rt.alloc(), RING.as_bytes()).expect(&rt, "a system");
-    let mut out = Narrow::new(rt.alloc(), 3, 10);
-    out.at_end = AtEnd::TakesNothing;
-    let formula = "<a>true".as_bytes();
-    let answer = table_line(
-        &rt,
-        rt.alloc(),
-        &system,
-        &table(rt.alloc(), true, false),
-        "f.mcf",
-        formula,
-        &mut out,
-    );
-    holds!(&rt; answer.is_err());
-    holds!(&rt; out.taken.as_slice() == b"yes 1 of 2".as_slice());
+    let system = system_of(&rt, RING);
+    is_cut(&rt, &system);
 }
 
 /// How many states the systems had together of which a watcher was told that they and a formula are read.
@@ -183,32 +175,41 @@ impl Watcher for Told {
     }
 }
 
-/// How many states a watcher is told of, while the line of this formula on a system of two states is found out.
-fn states_told<R: Abort + AllocGlobal + Threads + Wait + Clone + Copy + Drop + Send + Sync>(
+/// A watcher is told of these states, while the line of this formula on a system of two states is found out.
+fn is_told<R: Abort + AllocGlobal + Threads + Wait + Clone + Copy + Drop + Send + Sync>(
     rt: &R,
     formula: &str,
     line: &str,
-) -> u64 {
-    let system = read_aut(rt.alloc(), RING.as_bytes()).expect(rt, "a system");
+    states: u64,
+) {
+    let system = system_of(rt, RING);
     let told = Told {
         states: AtomicU64::new(0),
     };
+    is_seen(rt, &system, formula, line, &told);
+    holds!(rt; told.states.load(Ordering::SeqCst) == states);
+}
+
+fn is_seen<R: Abort + AllocGlobal + Threads + Wait + Clone + Copy + Drop + Send + Sync>(
+    rt: &R,
+    system: &Lts,
+    formula: &str,
+    line: &str,
+    told: &Told,
+) {
     let mut out = Vec::new(rt.alloc());
     let request = table(rt.alloc(), false, true);
     let bytes = formula.as_bytes();
     let alloc = rt.alloc();
-    let answer = table_line_seen(
-        rt, alloc, &system, &request, "f.mcf", bytes, &mut out, &told,
-    );
+    let answer = table_line_seen(rt, alloc, system, &request, "f.mcf", bytes, &mut out, told);
     holds!(rt; answer.is_ok());
-    holds!(rt; out.as_slice() == line.as_bytes(), formula);
-    told.states.load(Ordering::SeqCst)
+    is_text(rt, out.as_slice(), line);
 }
 
 /// A watcher is told of a formula that is read, also where a word of it is refused then, and of none whose text is refused.
 #[test]
 fn a_watcher_is_told_of_formulas_that_are_read(rt: HostRuntime) {
-    holds!(&rt; states_told(&rt, "<a>true", "yes 1 of 2 f.mcf\n") == 2);
-    holds!(&rt; states_told(&rt, "<c>true", "L1 at offset 1 f.mcf\n") == 2);
-    holds!(&rt; states_told(&rt, "<a>true && X", "F5 at offset 11 f.mcf\n") == 0);
+    is_told(&rt, "<a>true", "yes 1 of 2 f.mcf\n", 2);
+    is_told(&rt, "<c>true", "L1 at offset 1 f.mcf\n", 2);
+    is_told(&rt, "<a>true && X", "F5 at offset 11 f.mcf\n", 0);
 }

@@ -1,25 +1,20 @@
 // What is told of why an answer is so: whole texts, worked out by hand from the witnesses, which have the winner's moves and all of the opponent's. A step is
 // taken by the modalities of those moves.
 
-use crate::common::{holds, same};
+ghost use Rattle.std.specs.Prelude.{◌<◌};
+
+use crate::common::{DEFAULTS, ample, holds, is_text, is_write_fault, ring_of, says};
+use crate::reports::refuses_as;
 use engines::error::MuError;
 use engines::reasons::tell_why;
-use engines::request::{BoardKind, Options, Why};
-use fixtures::answers::answer_text;
-use forms::priorities::Priorities;
+use engines::request::Why;
 use measures::observer::Silent;
-use samples::texts::{RING, ring};
-use samples::writers::{AMPLE, AtEnd, Narrow};
+use samples::texts::RING;
+use samples::writers::{AtEnd, Narrow};
+use std::alloc::{AllocError, Global};
 use std::process::Abort;
 use std::sync::Wait;
 use std::thread::Threads;
-
-const OPTIONS: Options = Options {
-    priorities: Priorities::Nested,
-    workers: 1,
-    shards: 16,
-    board: BoardKind::Auto,
-};
 
 /// Two philosophers who take their left forks first, and may come to hold one each.
 const TABLE: &str =
@@ -164,7 +159,7 @@ fn why(strict: bool) -> Why<'static> {
     Why {
         system: "s",
         formula: "f",
-        options: OPTIONS,
+        options: DEFAULTS,
         strict,
     }
 }
@@ -197,58 +192,92 @@ fn told_by<R: Abort + AllocGlobal + Threads + Wait + Clone + Copy + Drop + Send 
     )
 }
 
+/// The answer is so, and this is told.
+fn tells<R: Abort + AllocGlobal + Threads + Wait + Clone + Copy + Drop + Send + Sync>(
+    rt: &R,
+    system: &str,
+    formula: &str,
+    is_so: bool,
+    text: &str,
+) {
+    let mut out = ample(rt, 7);
+    let answer = told(rt, system, formula, &mut out);
+    says(rt, formula, &answer, is_so);
+    is_text(rt, out.taken.as_slice(), text);
+}
+
 #[test]
 fn answers_are_told_as_worked_out(rt: HostRuntime) {
-    for (system, formula, holds, text) in &ROWS {
-        let mut out = Narrow::new(rt.alloc(), 7, AMPLE);
-        let answer = told(&rt, system, formula, &mut out);
-        holds!(&rt; answer.ok() == Some(*holds), formula);
-        holds!(&rt; out.taken.as_slice() == text.as_bytes(), formula);
+    for (system, formula, is_so, text) in &ROWS {
+        tells(&rt, system, formula, *is_so, text);
     }
+}
+
+/// One of the first 200 steps of a ring of so many states. It goes on by the modality of the step before.
+fn write_step(text: &mut String, states: usize, state: usize) -> Result<(), AllocError>
+    requires { state < 200 }
+{
+    let label = if state == 0 { "a" } else { "b" };
+    let (next, end) = if state + 1 == states {
+        (0, " (again)")
+    } else if state == 0 {
+        (1, " by <true>")
+    } else {
+        (state + 1, "")
+    };
+    write!(text, "{state} -{label}-> {next}{end}\n")?;
+    Ok(())
+}
+
+/// The first 200 steps of the ring.
+fn first_steps(alloc: Global, states: usize, head: &str) -> Result<String, AllocError> {
+    let mut text = String::from_str(alloc, head)?;
+    for state in 0..200usize {
+        write_step(&mut text, states, state)?;
+    }
+    Ok(text)
+}
+
+/// These are told behind the head.
+fn tells_first_steps<R: Abort + AllocGlobal + Threads + Wait + Clone + Copy + Drop + Send + Sync>(
+    rt: &R,
+    states: usize,
+    head: &str,
+) {
+    let system = ring_of(rt, states);
+    let text = first_steps(rt.alloc(), states, head).expect(rt, "memory");
+    tells(rt, system.as_str(), "nu X. <true>X", true, text.as_str());
 }
 
 /// All steps of a ring are told where there are 200, and of a larger one the first 200.
 #[test]
 fn two_hundred_steps_are_told(rt: HostRuntime) {
-    for states in [200usize, 300] {
-        let system = ring(rt.alloc(), states).expect(&rt, "memory");
-        let mut text = String::from_str(
-            rt.alloc(),
-            "formula (nu X. <true>X)\ninitial yes\n",
-        ).expect(&rt, "memory");
-        if states == 300 {
-            text.push_str("witness 300 transitions, the first 200:\n")
-                .expect(&rt, "memory");
-        }
-        for state in 0..200usize {
-            let label = if state == 0 { "a" } else { "b" };
-            let (next, end) = if state + 1 == states {
-                (0, " (again)")
-            } else if state == 0 {
-                (1, " by <true>")
-            } else {
-                (state + 1, "")
-            };
-            write!(text, "{state} -{label}-> {next}{end}\n").expect(&rt, "memory");
-        }
-        let mut out = Narrow::new(rt.alloc(), 50, AMPLE);
-        let answer = told(&rt, &system, "nu X. <true>X", &mut out);
-        holds!(&rt; answer.ok() == Some(true));
-        holds!(&rt; out.taken.as_slice() == text.as_bytes());
-    }
+    let all = "formula (nu X. <true>X)\ninitial yes\n";
+    let some = "formula (nu X. <true>X)\ninitial yes\nwitness 300 transitions, the first 200:\n";
+    tells_first_steps(&rt, 200, all);
+    tells_first_steps(&rt, 300, some);
 }
 
-/// Nothing is written where the formula is refused, and a beginning where the writer fails.
+/// Nothing is written where the formula is refused.
 #[test]
-fn refusals_and_failed_writes_are_told(rt: HostRuntime) {
-    let mut out = Narrow::new(rt.alloc(), 7, AMPLE);
+fn refusals_are_told(rt: HostRuntime) {
+    let mut out = ample(&rt, 7);
     holds!(&rt; told(&rt, RING, "<a>true && X", &mut out).is_err());
     holds!(&rt; out.taken.is_empty());
+}
+
+/// A beginning is written where the writer fails.
+#[test]
+fn failed_writes_are_told(rt: HostRuntime) {
     let mut out = Narrow::new(rt.alloc(), 7, 40);
     out.at_end = AtEnd::TakesNothing;
     let answer = told(&rt, RING, "<a><a>true", &mut out);
-    holds!(&rt; matches!(answer, Err(MuError::Write(_))));
-    holds!(&rt; out.taken.as_slice() == b"formula <a><a>true\ninitial no\n0 -a-> 1 b".as_slice());
+    is_write_fault(&rt, &answer);
+    is_text(
+        &rt,
+        out.taken.as_slice(),
+        "formula <a><a>true\ninitial no\n0 -a-> 1 b",
+    );
 }
 
 /// A formula on the ring, and what comes of it where it is asked about strictly. Which words are on no transition was read off the system.
@@ -259,13 +288,21 @@ static STRICT: [(&str, &str); 4] = [
     ("<c>X", "F5 at offset 3"),
 ];
 
+/// This comes of it, and something is written where that is an answer.
+fn comes_to<R: Abort + AllocGlobal + Threads + Wait + Clone + Copy + Drop + Send + Sync>(
+    rt: &R,
+    formula: &str,
+    wanted: &str,
+) {
+    let mut out = ample(rt, 7);
+    let answer = told_by(rt, &why(true), RING, formula, &mut out);
+    refuses_as(rt, &answer, wanted);
+    holds!(rt; out.taken.is_empty() == answer.is_err(), formula);
+}
+
 #[test]
 fn strictly_a_word_on_no_transition_is_refused(rt: HostRuntime) {
     for (formula, wanted) in &STRICT {
-        let mut out = Narrow::new(rt.alloc(), 7, AMPLE);
-        let answer = told_by(&rt, &why(true), RING, formula, &mut out);
-        let found = answer_text(rt.alloc(), &answer).expect(&rt, "memory");
-        same(&rt, formula, found.as_str(), wanted);
-        holds!(&rt; out.taken.is_empty() == answer.is_err(), formula);
+        comes_to(&rt, formula, wanted);
     }
 }

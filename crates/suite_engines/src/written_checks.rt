@@ -1,6 +1,6 @@
 // What a check writes: the game, both players' evidence and the report, of formulas whose games were solved by hand (the worked examples of docs/FORMATS.md).
 
-use crate::common::holds;
+use crate::common::{ample, holds, is_beginning, is_text, is_write_fault, says};
 use engines::engine::{check, check_one};
 use engines::error::MuError;
 use engines::request::{BoardKind, Options};
@@ -13,6 +13,7 @@ use forms::priorities::Priorities;
 use samples::texts::RING;
 use samples::writers::{AMPLE, Narrow};
 use std::alloc::Global;
+use std::process::Abort;
 use std::sync::Wait;
 use std::thread::Threads;
 
@@ -139,93 +140,177 @@ fn run<R: Threads + Wait + Clone + Copy + Drop + Send + Sync>(
     }
 }
 
-/// Whether the writer has the first bytes of the text, so many.
-fn has(writer: &Narrow, text: &str, count: usize) -> bool {
-    writer.taken.len() == count && text.as_bytes().starts_with(writer.taken.as_slice())
+/// The writer has the first bytes of the text, so many.
+fn has(rt: &impl Abort, writer: &Narrow, text: &str, count: usize) {
+    is_beginning(rt, writer.taken.as_slice(), text, count)
 }
 
-fn has_all(writer: &Narrow, text: &str) -> bool {
-    has(writer, text, text.len())
+fn has_all(rt: &impl Abort, writer: &Narrow, text: &str) {
+    is_text(rt, writer.taken.as_slice(), text)
+}
+
+fn has_nothing(rt: &impl Abort, writer: &Narrow) {
+    holds!(rt; writer.taken.is_empty());
+}
+
+/// Every text is written, on one thread or by two workers.
+fn is_written<R: Abort + AllocGlobal + Threads + Wait + Clone + Copy + Drop + Send + Sync>(
+    rt: &R,
+    texts: &Texts,
+    is_one: bool,
+) {
+    let mut writers = Writers::new(rt.alloc());
+    let answer = run(rt, rt.alloc(), texts, is_one, &mut writers);
+    says(rt, texts.formula, &answer, texts.initial);
+    has_texts(rt, &writers, texts);
+}
+
+fn has_texts(rt: &impl Abort, writers: &Writers, texts: &Texts) {
+    has_all(rt, &writers.game, texts.game);
+    has_all(rt, &writers.even, texts.even);
+    has_all(rt, &writers.odd, texts.odd);
+    has_all(rt, &writers.report, texts.report);
 }
 
 #[test]
 fn every_text_is_written(rt: HostRuntime) {
     for texts in &CHECKS {
-        for is_one in [true, false] {
-            let mut writers = Writers::new(rt.alloc());
-            let answer = run(&rt, rt.alloc(), texts, is_one, &mut writers);
-            holds!(&rt; answer.ok() == Some(texts.initial));
-            holds!(&rt; has_all(&writers.game, texts.game));
-            holds!(&rt; has_all(&writers.even, texts.even));
-            holds!(&rt; has_all(&writers.odd, texts.odd));
-            holds!(&rt; has_all(&writers.report, texts.report));
-        }
+        is_written(&rt, texts, true);
+        is_written(&rt, texts, false);
     }
 }
 
-fn is_write_fault(answer: &Result<bool, MuError>) -> bool {
-    matches!(answer, Err(MuError::Write(_)))
+/// The writers of the same check, of which one has little room: a write fails.
+fn fails<R: Abort + AllocGlobal + Threads + Wait + Clone + Copy + Drop + Send + Sync>(
+    rt: &R,
+    texts: &Texts,
+    is_one: bool,
+    writers: &mut Writers,
+) {
+    let answer = run(rt, rt.alloc(), texts, is_one, writers);
+    is_write_fault(rt, &answer);
+}
+
+/// With so little room for the game nothing else is written.
+fn game_fails<R: Abort + AllocGlobal + Threads + Wait + Clone + Copy + Drop + Send + Sync>(
+    rt: &R,
+    texts: &Texts,
+    room: usize,
+) {
+    let mut writers = Writers::new(rt.alloc());
+    writers.game = Narrow::new(rt.alloc(), 9, room);
+    fails(rt, texts, false, &mut writers);
+    has_cut_game(rt, &writers, texts, room);
+}
+
+fn has_cut_game(rt: &impl Abort, writers: &Writers, texts: &Texts, room: usize) {
+    has(rt, &writers.game, texts.game, room);
+    has_nothing(rt, &writers.even);
+    has_nothing(rt, &writers.odd);
+    has_nothing(rt, &writers.report);
 }
 
 #[test]
 fn a_failed_game_ends_the_check(rt: HostRuntime) {
     for texts in &CHECKS {
         for room in 0..texts.game.len() {
-            let mut writers = Writers::new(rt.alloc());
-            writers.game = Narrow::new(rt.alloc(), 9, room);
-            let answer = run(&rt, rt.alloc(), texts, false, &mut writers);
-            holds!(&rt; is_write_fault(&answer));
-            holds!(&rt; has(&writers.game, texts.game, room));
-            holds!(&rt; writers.even.taken.is_empty() && writers.odd.taken.is_empty());
-            holds!(&rt; writers.report.taken.is_empty());
+            game_fails(&rt, texts, room);
         }
     }
+}
+
+/// With so little room for Odd's evidence no report is written.
+fn evidence_fails<R: Abort + AllocGlobal + Threads + Wait + Clone + Copy + Drop + Send + Sync>(
+    rt: &R,
+    texts: &Texts,
+    room: usize,
+) {
+    let mut writers = Writers::new(rt.alloc());
+    writers.odd = Narrow::new(rt.alloc(), 9, room);
+    fails(rt, texts, false, &mut writers);
+    has_cut_evidence(rt, &writers, texts, room);
+}
+
+fn has_cut_evidence(rt: &impl Abort, writers: &Writers, texts: &Texts, room: usize) {
+    has_all(rt, &writers.game, texts.game);
+    has_all(rt, &writers.even, texts.even);
+    has(rt, &writers.odd, texts.odd, room);
+    has_nothing(rt, &writers.report);
 }
 
 #[test]
 fn failed_evidence_ends_the_check(rt: HostRuntime) {
     for texts in &CHECKS {
         for room in 0..texts.odd.len() {
-            let mut writers = Writers::new(rt.alloc());
-            writers.odd = Narrow::new(rt.alloc(), 9, room);
-            let answer = run(&rt, rt.alloc(), texts, false, &mut writers);
-            holds!(&rt; is_write_fault(&answer));
-            holds!(&rt; has_all(&writers.game, texts.game));
-            holds!(&rt; has_all(&writers.even, texts.even));
-            holds!(&rt; has(&writers.odd, texts.odd, room));
-            holds!(&rt; writers.report.taken.is_empty());
+            evidence_fails(&rt, texts, room);
         }
     }
+}
+
+/// With so little room for the report the other texts are whole.
+fn report_fails<R: Abort + AllocGlobal + Threads + Wait + Clone + Copy + Drop + Send + Sync>(
+    rt: &R,
+    texts: &Texts,
+    room: usize,
+) {
+    let mut writers = Writers::new(rt.alloc());
+    writers.report = Narrow::new(rt.alloc(), 9, room);
+    fails(rt, texts, true, &mut writers);
+    has_cut_report(rt, &writers, texts, room);
+}
+
+fn has_cut_report(rt: &impl Abort, writers: &Writers, texts: &Texts, room: usize) {
+    has_all(rt, &writers.game, texts.game);
+    has_all(rt, &writers.odd, texts.odd);
+    has(rt, &writers.report, texts.report, room);
 }
 
 #[test]
 fn a_failed_report_leaves_the_other_texts_whole(rt: HostRuntime) {
     for texts in &CHECKS {
         for room in 0..texts.report.len() {
-            let mut writers = Writers::new(rt.alloc());
-            writers.report = Narrow::new(rt.alloc(), 9, room);
-            let answer = run(&rt, rt.alloc(), texts, true, &mut writers);
-            holds!(&rt; is_write_fault(&answer));
-            holds!(&rt; has_all(&writers.game, texts.game));
-            holds!(&rt; has_all(&writers.odd, texts.odd));
-            holds!(&rt; has(&writers.report, texts.report, room));
+            report_fails(&rt, texts, room);
         }
     }
+}
+
+/// A check that writes the game and the report alone.
+fn run_game<R: Abort + AllocGlobal + Threads + Wait + Clone + Copy + Drop + Send + Sync>(
+    rt: &R,
+    texts: &Texts,
+    game: &mut Narrow,
+    out: &mut Narrow,
+) -> Result<bool, MuError> {
+    let none: EvidenceWriters<'_, Vec<u8>, Vec<u8>> = EvidenceWriters::Neither;
+    let (system, formula) = (texts.system.as_bytes(), texts.formula.as_bytes());
+    let options = options(texts.priorities);
+    check(
+        rt,
+        rt.alloc(),
+        system,
+        formula,
+        &options,
+        out,
+        Some(game),
+        none,
+    )
+}
+
+fn writes_the_game<R: Abort + AllocGlobal + Threads + Wait + Clone + Copy + Drop + Send + Sync>(
+    rt: &R,
+    texts: &Texts,
+) {
+    let mut game = ample(rt, 9);
+    let mut report = ample(rt, 9);
+    holds!(rt; run_game(rt, texts, &mut game, &mut report).is_ok());
+    has_all(rt, &game, texts.game);
+    has_all(rt, &report, texts.report);
 }
 
 /// Which texts are written is the caller's choice.
 #[test]
 fn the_game_may_be_written_alone(rt: HostRuntime) {
     for texts in &CHECKS {
-        let mut writers = Writers::new(rt.alloc());
-        let none: EvidenceWriters<'_, Vec<u8>, Vec<u8>> = EvidenceWriters::Neither;
-        let game = Some(&mut writers.game);
-        let (system, formula) = (texts.system.as_bytes(), texts.formula.as_bytes());
-        let options = options(texts.priorities);
-        let out = &mut writers.report;
-        let answer = check(&rt, rt.alloc(), system, formula, &options, out, game, none);
-        holds!(&rt; answer.is_ok());
-        holds!(&rt; has_all(&writers.game, texts.game));
-        holds!(&rt; has_all(&writers.report, texts.report));
+        writes_the_game(&rt, texts);
     }
 }

@@ -3,22 +3,22 @@
 ghost use Rattle.std.specs.Prelude.{◌≡◌, ◌<◌, length};
 ghost use Rattle.std.specs.Arc.{arc_value};
 
-use crate::common::holds;
+use crate::common::{board_of_shards, finished, holds, settled, shared_game};
 use game::graph::Game;
 use game::name::GameName;
 use game::player::Player;
-use measures::settle::settle;
-use measures::table::{PlainTable, opening};
-use samples::games::{Row, shared_game_of};
+use measures::measure::Measure;
+use measures::table::PlainTable;
+use samples::games::Row;
 use std::alloc::Global;
 use std::marker::Brand;
 use std::process::Abort;
 use std::sync::{Arc, Wait};
-use tables::board::{Board, finish};
-use tables::locked::LockedBoard;
+use tables::board::Board;
 use tables::shard::Shard;
 
-// The game of `<a>true` on two states, of which the first leads to the second by a, and the second to the first by b.
+// The game of `<a>true` on two states, of which the first leads to the second by a, and the second to the first by b. Vertex 4
+// leads to the false sink alone.
 static DIAMOND: [Row; 6] = [
     (Player::Even, 0, &[0]),
     (Player::Even, 1, &[1]),
@@ -37,46 +37,68 @@ fn rises_once<B: Board>(rt: &impl Abort, board: &B, source: &PlainTable)
         panic!(rt; "no seat")
     };
     let top = source.value(4);
-    let before = board.read(&mut seat, 4);
-    holds!(rt; top.is_top() && !before.is_top() && before.counts() == [0].as_slice());
+    holds!(rt; top.is_top());
+    is_low(rt, &board.read(&mut seat, 4));
     holds!(rt; board.raise(&mut seat, 4, &top), "it rises");
     holds!(rt; board.read(&mut seat, 4).is_top(), "it is read");
     holds!(rt; !board.raise(&mut seat, 4, &top), "it rises once");
+}
+
+/// The same to what the vertex has in the settled table.
+pub fn rises_to_the_settled<B: Board, R: Abort + AllocGlobal>(rt: &R, board: &B, game: &Game)
+    requires same { game.now ≡ B.game board.now }
+    requires vertex { 4 < length game.now.vertices }
+{
+    let source = settled(rt, game);
+    rises_once(rt, board, &source);
+}
+
+/// The vertex has risen in what the board is finished into.
+pub fn is_finished<B: Board, R: Abort + AllocGlobal>(rt: &R, board: &B, game: &Game)
+    requires same { game.now ≡ B.game board.now }
+    requires vertex { 4 < length game.now.vertices }
+{
+    let table = finished(rt, board, game);
+    holds!(rt; table.value(4).is_top() && !table.value(2).is_top());
+}
+
+// A measure that asks for nothing.
+fn is_low(rt: &impl Abort, m: &Measure) {
+    holds!(rt; !m.is_top() && m.counts() == [0].as_slice());
+}
+
+// A board that has no way of its own to lift.
+fn is_lifted_by_reads<B: Board>(rt: &impl Abort, board: &B)
+    requires { 4 < length (B.game board.now).vertices }
+{
+    let Ok(mut seat) = board.seat() else {
+        panic!(rt; "no seat")
+    };
     holds!(rt; board.own_lift(&mut seat, 4).is_none(), "it is lifted by reads");
     board.last(&mut seat);
 }
 
 // The same over so many shards, and what the board is finished into.
-fn rises_on<K: GameName, R: Wait + Drop>(
-    rt: &impl Abort,
-    handle: R,
-    alloc: Global,
-    game: Arc<Game, Global>,
-    source: &PlainTable,
+fn rises_on<K: GameName, R: Abort + AllocGlobal + Wait + Clone + Copy + Drop>(
+    rt: &R,
+    game: &Arc<Game, Global>,
     shards: u32,
 )
-    requires named { arc_value game ≡ K.game }
-    requires same { source.now.game ≡ K.game }
-    requires vertex { 4 < length source.now.game.vertices }
+    requires named { arc_value game.now ≡ K.game }
+    requires vertex { 4 < length (arc_value game.now).vertices }
     requires shards { 0 < shards }
 {
-    let mut table = opening(alloc, &game).expect(rt, "memory");
-    let shared = Arc::try_clone(&game).expect(rt, "memory");
-    let Ok(board) = LockedBoard::<K, R>::new(handle, alloc, shared, shards) else {
-        panic!(rt; "no board")
-    };
-    rises_once(rt, &board, source);
-    finish(&board, &game, &mut table);
-    holds!(rt; table.value(4).is_top() && !table.value(2).is_top());
+    let board = board_of_shards::<K, R>(rt, game, shards);
+    rises_to_the_settled(rt, &board, game);
+    is_lifted_by_reads(rt, &board);
+    is_finished(rt, &board, game);
 }
 
 // A shard of every second vertex keeps the greater of two measures, and tells whether its own rose.
-fn keeps_the_greater<K: GameName>(rt: &impl Abort, alloc: Global, game: &Game, source: &PlainTable)
-    requires named { game.now ≡ K.game }
+fn keeps_the_greater<K: GameName>(rt: &impl Abort, shard: &mut Shard<K>, source: &PlainTable)
     requires same { source.now.game ≡ K.game }
     requires vertex { 4 < length source.now.game.vertices }
 {
-    let mut shard = Shard::<K>::new(alloc, game, 0, 2).expect(rt, "memory");
     holds!(rt; shard.has(4) && !shard.has(3));
     let top = source.value(4);
     let low = shard.read(4);
@@ -86,29 +108,38 @@ fn keeps_the_greater<K: GameName>(rt: &impl Abort, alloc: Global, game: &Game, s
     holds!(rt; shard.read(4).is_top());
 }
 
+fn is_kept<K: GameName>(rt: &(impl Abort + AllocGlobal), game: &Game)
+    requires named { game.now ≡ K.game }
+    requires vertex { 4 < length game.now.vertices }
+{
+    let mut shard = Shard::<K>::new(rt.alloc(), game, 0, 2).expect(rt, "memory");
+    let source = settled(rt, game);
+    keeps_the_greater(rt, &mut shard, &source);
+}
+
+/// The game has the vertices that are asked for.
+pub fn diamond(rt: &(impl Abort + AllocGlobal)) -> Arc<Game, Global>
+    ensures { 4 < length (arc_value result).vertices }
+{
+    let game = shared_game(rt, &DIAMOND);
+    holds!(rt; 4 < game.vertices());
+    game
+}
+
 #[test]
 fn a_shard_keeps_the_greater(rt: HostRuntime) {
-    let game = shared_game_of(&rt, &DIAMOND).expect(&rt, "a game");
-    let mut source = opening(rt.alloc(), &game).expect(&rt, "memory");
-    settle(&game, &mut source);
-    holds!(&rt; 4 < game.vertices());
-    keeps_the_greater::<Brand>(&rt, rt.alloc(), &game, &source)
+    let game = diamond(&rt);
+    is_kept::<Brand>(&rt, &game)
 }
 
 #[test]
 fn a_vertex_rises_on_one_shard(rt: HostRuntime) {
-    let game = shared_game_of(&rt, &DIAMOND).expect(&rt, "a game");
-    let mut source = opening(rt.alloc(), &game).expect(&rt, "memory");
-    settle(&game, &mut source);
-    holds!(&rt; 4 < game.vertices());
-    rises_on::<Brand, HostRuntime>(&rt, rt, rt.alloc(), game, &source, 1)
+    let game = diamond(&rt);
+    rises_on::<Brand, HostRuntime>(&rt, &game, 1)
 }
 
 #[test]
 fn a_vertex_rises_on_sixteen_shards(rt: HostRuntime) {
-    let game = shared_game_of(&rt, &DIAMOND).expect(&rt, "a game");
-    let mut source = opening(rt.alloc(), &game).expect(&rt, "memory");
-    settle(&game, &mut source);
-    holds!(&rt; 4 < game.vertices());
-    rises_on::<Brand, HostRuntime>(&rt, rt, rt.alloc(), game, &source, 16)
+    let game = diamond(&rt);
+    rises_on::<Brand, HostRuntime>(&rt, &game, 16)
 }

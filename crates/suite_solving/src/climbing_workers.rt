@@ -4,12 +4,14 @@
 ghost use Rattle.std.specs.Prelude.{◌≡◌, ◌*◌, ◌<◌, ◌≤◌, length};
 ghost use Rattle.std.specs.Arc.{arc_value};
 
+use crate::common::{
+    board_of_shards, board_of_words, holds, holds_of, is_least, opened, rolled_game,
+};
 use game::graph::{Game, GameBuilder};
 use game::name::GameName;
 use game::player::Player;
-use measures::settle::solve_one;
-use measures::table::{Settled, opening};
-use samples::dice::{Dice, roll_game};
+use measures::table::Settled;
+use samples::dice::Dice;
 use samples::games::push_row;
 use std::alloc::{AllocError, Global};
 use std::array;
@@ -18,8 +20,6 @@ use std::process::Abort;
 use std::sync::atomic::{AtomicU64, Ordering};
 use std::sync::{Arc, Wait};
 use std::thread::Threads;
-use tables::locked::LockedBoard;
-use tables::packed::PackedBoard;
 use workers::gate::{Gate, NoGate};
 use workers::solving::solve_from;
 
@@ -39,9 +39,10 @@ impl Turns {
 
     /// Those of one worker.
     pub fn of(&self, worker: usize) -> u64 {
-        match self.by.get(worker) {
-            Some(turns) => turns.load(Ordering::SeqCst),
-            None => 0,
+        if worker < self.by.len() {
+            self.by[worker].load(Ordering::SeqCst)
+        } else {
+            0
         }
     }
 
@@ -57,8 +58,8 @@ impl Turns {
 
 impl Gate for Turns {
     fn before(&self, worker: usize, _v: u32) {
-        if let Some(turns) = self.by.get(worker) {
-            turns.fetch_add(1, Ordering::SeqCst);
+        if worker < self.by.len() {
+            self.by[worker].fetch_add(1, Ordering::SeqCst);
         }
     }
 }
@@ -73,10 +74,8 @@ pub fn lifted_over_words<G: Gate + Sync, R: Abort + AllocGlobal + Threads + Wait
     requires { 0 < workers }
     ensures { result.game ≡ arc_value game.now }
 {
-    let table = opening(rt.alloc(), game).expect(rt, "memory");
-    let shared = Arc::try_clone(game).expect(rt, "memory");
-    let board = PackedBoard::new(rt.alloc(), shared, 1).expect(rt, "a board");
-    solve_from(rt, rt.alloc(), game, table, board, workers, gate)
+    let board = board_of_words(rt, game, 1);
+    solve_from(rt, rt.alloc(), game, opened(rt, game), board, workers, gate)
 }
 
 /// How many vertices a ring of a climb has.
@@ -127,24 +126,55 @@ fn climb(rt: &(impl Abort + AllocGlobal), vertices: u32, apart: u32) -> Arc<Game
 {
     let mut builder = GameBuilder::new(rt.alloc());
     for v in 0..vertices {
-        push_climbing(&mut builder, vertices, apart, v).expect(rt, "memory");
+        holds!(rt; push_climbing(&mut builder, vertices, apart, v).is_ok());
     }
+    built(rt, builder)
+}
+
+/// The game of what was pushed, to be shared.
+pub fn built(rt: &(impl Abort + AllocGlobal), builder: GameBuilder) -> Arc<Game, Global> {
     let game = builder.finish().expect(rt, "a game");
+    shared_of(rt, game)
+}
+
+fn shared_of(rt: &(impl Abort + AllocGlobal), game: Game) -> Arc<Game, Global> {
     Arc::new(rt.alloc(), game).expect(rt, "memory")
+}
+
+// How many turns so many workers over words take.
+fn turns_of<R: Abort + AllocGlobal + Threads + Wait + Sync>(
+    rt: &R,
+    game: &Arc<Game, Global>,
+    workers: usize,
+) -> u64
+    requires { 0 < workers }
+{
+    let turns = Turns::new();
+    lifted_over_words(rt, game, workers, &turns);
+    turns.all()
+}
+
+// So many workers take at most twice the turns of one.
+fn take_at_most_twice<R: Abort + AllocGlobal + Threads + Wait + Sync>(
+    rt: &R,
+    game: &Arc<Game, Global>,
+    workers: usize,
+    one: u64,
+)
+    requires { 0 < workers }
+{
+    let all = turns_of(rt, game, workers);
+    holds_of(rt, all / 2 <= one, "the turns of many are", all);
 }
 
 #[test]
 fn a_climb_takes_many_workers_at_most_twice_the_lifts_of_one(rt: HostRuntime) {
     let game = climb(&rt, 2000, 1);
-    let alone = Turns::new();
-    lifted_over_words(&rt, &game, 1, &alone);
-    assert!(rt; alone.all() > 100_000, "{}", alone.all());
-    for workers in [2, 8, 64] {
-        let turns = Turns::new();
-        lifted_over_words(&rt, &game, workers, &turns);
-        let (all, one) = (turns.all(), alone.all());
-        assert!(rt; all / 2 <= one, "{workers} took {all}, and one {one}");
-    }
+    let one = turns_of(&rt, &game, 1);
+    holds_of(&rt, one > 100_000, "the turns of one are", one);
+    take_at_most_twice(&rt, &game, 2, one);
+    take_at_most_twice(&rt, &game, 8, one);
+    take_at_most_twice(&rt, &game, 64, one);
 }
 
 // Whether each of so many workers took at least a tenth of the turns.
@@ -169,23 +199,42 @@ fn push_branch(builder: &mut GameBuilder, vertices: u32, v: u32) -> Result<(), A
     }
 }
 
+// The tree of 100,000 vertices.
+fn tree(rt: &(impl Abort + AllocGlobal)) -> Arc<Game, Global> {
+    let mut builder = GameBuilder::new(rt.alloc());
+    for v in 0..100_000 {
+        holds!(rt; push_branch(&mut builder, 100_000, v).is_ok());
+    }
+    built(rt, builder)
+}
+
+// So many workers share the turns at it.
+fn share<R: Abort + AllocGlobal + Threads + Wait + Sync>(
+    rt: &R,
+    game: &Arc<Game, Global>,
+    workers: usize,
+)
+    requires { 0 < workers }
+{
+    let turns = Turns::new();
+    lifted_over_words(rt, game, workers, &turns);
+    let all = turns.all();
+    holds_of(rt, all >= 100_000 && all < 220_000, "all turns are", all);
+    holds_of(
+        rt,
+        are_shared(&turns, workers),
+        "are shared by",
+        workers as u64,
+    );
+}
+
 // Each worker has a turn at each of its own vertices. Each vertex rises once, so there are about two turns for each: where a block is given again
 // while somebody goes through it, two may come to a vertex at the same time. So a quarter of the vertices is more than a tenth of all turns.
 #[test]
 fn what_rises_once_is_shared(rt: HostRuntime) {
-    let mut builder = GameBuilder::new(rt.alloc());
-    for v in 0..100_000 {
-        push_branch(&mut builder, 100_000, v).expect(&rt, "memory");
-    }
-    let game = builder.finish().expect(&rt, "a game");
-    let game = Arc::new(rt.alloc(), game).expect(&rt, "memory");
-    for workers in [2, 4] {
-        let turns = Turns::new();
-        lifted_over_words(&rt, &game, workers, &turns);
-        let all = turns.all();
-        assert!(rt; all >= 100_000 && all < 220_000, "{all}");
-        assert!(rt; are_shared(&turns, workers), "{workers}");
-    }
+    let game = tree(&rt);
+    share(&rt, &game, 2);
+    share(&rt, &game, 4);
 }
 
 // The table that workers over shards come to.
@@ -198,10 +247,16 @@ fn lifted_over_shards<
     requires workers { 0 < workers }
     ensures { result.game ≡ arc_value game.now }
 {
-    let table = opening(rt.alloc(), game).expect(rt, "memory");
-    let shared = Arc::try_clone(game).expect(rt, "memory");
-    let board = LockedBoard::<K, R>::new(*rt, rt.alloc(), shared, shards).expect(rt, "memory");
-    solve_from(rt, rt.alloc(), game, table, board, workers, &NoGate)
+    let board = board_of_shards::<K, R>(rt, game, shards);
+    solve_from(
+        rt,
+        rt.alloc(),
+        game,
+        opened(rt, game),
+        board,
+        workers,
+        &NoGate,
+    )
 }
 
 // The table that workers over a board come to; how many they are, which board it is and how many shards it has is thrown.
@@ -221,17 +276,9 @@ fn lifted_somehow<R: Abort + AllocGlobal + Threads + Wait + Clone + Copy + Drop 
     }
 }
 
-/// Whether two tables of a game are the same.
-pub fn agree(game: &Game, one: &Settled, other: &Settled) -> bool
-    requires one { one.now.game ≡ game.now }
-    requires other { other.now.game ≡ game.now }
-{
-    for v in 0..game.vertices() {
-        if !one.value(v).compare(&other.value(v)).is_eq() {
-            return false;
-        }
-    }
-    true
+// A game that is thrown, to be shared.
+fn shared_rolled(rt: &(impl Abort + AllocGlobal), dice: &mut Dice) -> Arc<Game, Global> {
+    shared_of(rt, rolled_game(rt, dice, 24))
 }
 
 // Whether workers, thrown as they are, come to the table of one thread, on a game that is thrown too.
@@ -239,18 +286,15 @@ fn is_same_table<R: Abort + AllocGlobal + Threads + Wait + Clone + Copy + Drop +
     rt: &R,
     dice: &mut Dice,
 ) -> bool {
-    let rolled = roll_game(rt, dice, 24, 6).expect(rt, "memory");
-    let game = rolled.expect(rt, "a game");
-    let game = Arc::new(rt.alloc(), game).expect(rt, "memory");
-    let one = solve_one(rt.alloc(), &game).expect(rt, "memory");
+    let game = shared_rolled(rt, dice);
     let many = lifted_somehow(rt, dice, &game);
-    agree(&game, &one, &many)
+    is_least(rt, &game, &many)
 }
 
 #[test]
 fn workers_thrown_at_random_find_the_least_table(rt: HostRuntime) {
     let mut dice = Dice::new(7);
-    for run in 0..1_000 {
-        assert!(rt; is_same_table(&rt, &mut dice), "run {run}");
+    for run in 0..1_000u64 {
+        holds_of(&rt, is_same_table(&rt, &mut dice), "run", run);
     }
 }

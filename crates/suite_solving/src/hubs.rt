@@ -3,8 +3,8 @@
 
 ghost use Rattle.std.specs.Prelude.{◌≡◌, ◌+◌, ◌<◌, ◌≤◌};
 
-use crate::climbing_workers::{Turns, lifted_over_words};
-use crate::common::holds;
+use crate::climbing_workers::{Turns, built, lifted_over_words};
+use crate::common::{holds, holds_of};
 use game::graph::{Game, GameBuilder};
 use game::player::Player;
 use samples::games::push_row;
@@ -61,10 +61,9 @@ impl Hub {
     {
         let mut builder = GameBuilder::new(rt.alloc());
         for v in 0..self.trap() + 2 {
-            self.push(&mut builder, v).expect(rt, "memory");
+            holds!(rt; self.push(&mut builder, v).is_ok());
         }
-        let game = builder.finish().expect(rt, "a game");
-        Arc::new(rt.alloc(), game).expect(rt, "memory")
+        built(rt, builder)
     }
 }
 
@@ -111,14 +110,31 @@ fn what_is_pending_is_given_once_however_often_its_hub_rises(rt: HostRuntime) {
         of_hub: AtomicU64::new(0),
     };
     lifted_over_words(&rt, &game, 2, &gate);
-    holds!(&rt; gate.of_hub.load(Ordering::SeqCst) == HUB_TURNS);
-    holds!(&rt; gate.turns.of(0) == u64::from(hub.leading));
-    holds!(&rt; gate.turns.all() == u64::from(hub.trap() + 1) + HUB_TURNS);
+    has_turns(
+        &rt,
+        &gate,
+        u64::from(hub.leading),
+        u64::from(hub.trap() + 1),
+    );
+}
+
+// The first worker had a turn at each vertex that leads to the hub, and all had one at each of so many vertices, beside those of the hub.
+fn has_turns(rt: &impl Abort, gate: &Holding, leading: u64, others: u64) {
+    holds!(rt; gate.of_hub.load(Ordering::SeqCst) == HUB_TURNS);
+    holds!(rt; gate.turns.of(0) == leading);
+    holds!(rt; gate.turns.all() == others.saturating_add(HUB_TURNS));
 }
 
 // What the system tells of this process's memory under a name, in kilobytes.
 fn kilobytes(rt: HostRuntime, name: &str) -> Option<u64> {
-    let status = fs::read_to_string(&rt, "/proc/self/status").ok()?;
+    match fs::read_to_string(&rt, "/proc/self/status") {
+        Ok(status) => number_behind(status.as_str(), name),
+        Err(_) => None,
+    }
+}
+
+// The number that stands behind a name.
+fn number_behind(status: &str, name: &str) -> Option<u64> {
     let (_, rest) = status.split_once(name)?;
     let (number, _) = rest.trim_start().split_once(" ")?;
     number.parse::<u64>().ok()
@@ -136,5 +152,5 @@ fn a_hub_that_a_million_lead_to_is_lifted_in_little_room(rt: HostRuntime) {
     lifted_over_words(&rt, &game, 4, &NoGate);
     let most = kilobytes(rt, "VmHWM:").expect(&rt, "a number");
     let taken = most.saturating_sub(before) / 1_000;
-    assert!(rt; taken <= 200, "{taken} MB");
+    holds_of(&rt, taken <= 200, "MB taken:", taken);
 }

@@ -2,18 +2,20 @@
 // taken away after the reads, who raises would find it, and give no job.
 
 ghost use Rattle.std.specs.Prelude.{◌≡◌};
+ghost use Rattle.std.specs.Arc.{arc_value};
+ghost use Rattle.tables.specs.Seats.{board_game};
 
-use crate::common::holds;
+use crate::common::{board_of_words, holds, is_finished_settled, opened, shared_game};
 use game::graph::Game;
 use game::player::Player;
 use measures::measure::Measure;
-use measures::settle::is_settled;
-use measures::table::opening;
-use samples::games::{Row, shared_game_of};
-use std::sync::Arc;
+use samples::games::Row;
+use std::alloc::Global;
+use std::process::Abort;
 use std::sync::atomic::{AtomicBool, AtomicU64, Ordering};
-use std::thread::yield_now;
-use tables::board::{Board, finish};
+use std::sync::{Arc, Wait};
+use std::thread::{Threads, yield_now};
+use tables::board::Board;
 use tables::error::TableError;
 use tables::packed::PackedBoard;
 use workers::gate::Gate;
@@ -130,22 +132,37 @@ impl<'a, B: Board> Board for Slow<'a, B> {
     fn last(&self, _seat: &mut B::Seat) {}
 }
 
+// Two workers lift over the board, of which one is held.
+fn lift_slowly<R: Abort + AllocGlobal + Threads + Wait + Sync>(
+    rt: &R,
+    game: &Arc<Game, Global>,
+    inner: &PackedBoard,
+    order: &Order,
+)
+    requires { board_game inner.now ≡ arc_value game.now }
+{
+    let board = Slow { inner, game, order };
+    let _ = solve_from(rt, rt.alloc(), game, opened(rt, game), board, 2, order);
+}
+
+// What was read has risen, and the reader had two turns.
+fn is_read_once_more<R: Abort + AllocGlobal + Threads + Wait + Sync>(
+    rt: &R,
+    game: &Arc<Game, Global>,
+    inner: &PackedBoard,
+)
+    requires { board_game inner.now ≡ arc_value game.now }
+{
+    let order = Order::new();
+    lift_slowly(rt, game, inner, &order);
+    holds!(rt; order.is_over.load(Ordering::SeqCst));
+    holds!(rt; order.turns.load(Ordering::SeqCst) == 2);
+}
+
 #[test]
 fn what_rises_after_it_was_read_gives_its_reader_once_more(rt: HostRuntime) {
-    let game = shared_game_of(&rt, &ROWS).expect(&rt, "a game");
-    let table = opening(rt.alloc(), &game).expect(&rt, "memory");
-    let mut left = opening(rt.alloc(), &game).expect(&rt, "memory");
-    let shared = Arc::try_clone(&game).expect(&rt, "memory");
-    let inner = PackedBoard::new(rt.alloc(), shared, 1).expect(&rt, "a board");
-    let order = Order::new();
-    let board = Slow {
-        inner: &inner,
-        game: &game,
-        order: &order,
-    };
-    let _ = solve_from(&rt, rt.alloc(), &game, table, board, 2, &order);
-    finish(&inner, &game, &mut left);
-    holds!(&rt; order.is_over.load(Ordering::SeqCst));
-    holds!(&rt; is_settled(&game, &left));
-    holds!(&rt; order.turns.load(Ordering::SeqCst) == 2);
+    let game = shared_game(&rt, &ROWS);
+    let inner = board_of_words(&rt, &game, 1);
+    is_read_once_more(&rt, &game, &inner);
+    holds!(&rt; is_finished_settled(&rt, &inner, &game));
 }

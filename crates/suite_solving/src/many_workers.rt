@@ -3,25 +3,26 @@
 ghost use Rattle.std.specs.Prelude.{◌≡◌, ◌<◌, length};
 ghost use Rattle.std.specs.Arc.{arc_value};
 
-use crate::common::holds;
+use crate::common::{
+    board_of_shards, board_of_words, holds, holds_of, is_finished_settled, is_least, opened,
+    shared_game,
+};
 use fixtures::meeting::Meeting;
 use game::graph::Game;
 use game::name::GameName;
 use game::player::Player;
 use measures::measure::Measure;
-use measures::settle::{is_settled, solve_one};
-use measures::table::opening;
-use samples::games::{Row, shared_game_of};
+use measures::settle::is_settled;
+use measures::table::Settled;
+use samples::games::Row;
 use std::alloc::{AllocError, Global};
 use std::marker::Brand;
 use std::process::Abort;
 use std::sync::atomic::{AtomicU32, AtomicU64, Ordering};
 use std::sync::{Arc, Wait};
 use std::thread::Threads;
-use tables::board::{Board, finish};
+use tables::board::Board;
 use tables::error::TableError;
-use tables::locked::LockedBoard;
-use tables::packed::PackedBoard;
 use workers::gate::{Gate, NoGate};
 use workers::locked::solve_locked;
 use workers::solving::solve_from;
@@ -78,6 +79,20 @@ static TWO_RINGS: [Row; 23] = [
     (Player::Even, 4, &[22]),
 ];
 
+// The table that workers over shards under locks come to.
+fn lifted_by<R: Abort + AllocGlobal + Threads + Wait + Clone + Copy + Drop + Send + Sync>(
+    rt: &R,
+    game: &Arc<Game, Global>,
+    shards: u32,
+    workers: usize,
+) -> Settled
+    requires shards { 0 < shards }
+    requires workers { 0 < workers }
+    ensures { result.game ≡ arc_value game.now }
+{
+    solve_locked(rt, rt.alloc(), game, shards, workers, &NoGate).expect(rt, "memory")
+}
+
 // The workers' table is that of one thread.
 fn same_table<R: Abort + AllocGlobal + Threads + Wait + Clone + Copy + Drop + Send + Sync>(
     rt: &R,
@@ -88,40 +103,53 @@ fn same_table<R: Abort + AllocGlobal + Threads + Wait + Clone + Copy + Drop + Se
     requires shards { 0 < shards }
     requires workers { 0 < workers }
 {
-    let game = shared_game_of(rt, rows).expect(rt, "a game");
-    let one = solve_one(rt.alloc(), &game).expect(rt, "memory");
-    let Ok(many) = solve_locked(rt, rt.alloc(), &game, shards, workers, &NoGate) else {
-        return false;
-    };
-    for v in 0..game.vertices() {
-        if !one.value(v).compare(&many.value(v)).is_eq() {
-            return false;
-        }
-    }
-    true
+    let game = shared_game(rt, rows);
+    let many = lifted_by(rt, &game, shards, workers);
+    is_least(rt, &game, &many)
+}
+
+// So many workers find it.
+fn find_the_least_table<
+    R: Abort + AllocGlobal + Threads + Wait + Clone + Copy + Drop + Send + Sync,
+>(rt: &R, workers: usize)
+    requires { 0 < workers }
+{
+    let number = workers as u64;
+    holds_of(
+        rt,
+        same_table(rt, &ODD_RING, 1, workers),
+        "on a ring",
+        number,
+    );
+    holds_of(
+        rt,
+        same_table(rt, &ODD_RING, 16, workers),
+        "on a ring in shards",
+        number,
+    );
+    holds_of(rt, same_table(rt, &WAY, 16, workers), "on a way", number);
 }
 
 #[test]
 fn any_number_of_workers_finds_the_least_table(rt: HostRuntime) {
-    for workers in [1, 2, 8] {
-        assert!(rt;
-            same_table(&rt, &ODD_RING, 1, workers),
-            "{workers} on a ring"
-        );
-        assert!(rt;
-            same_table(&rt, &ODD_RING, 16, workers),
-            "{workers} on a ring in shards"
-        );
-        assert!(rt; same_table(&rt, &WAY, 16, workers), "{workers} on a way");
-    }
+    find_the_least_table(&rt, 1);
+    find_the_least_table(&rt, 2);
+    find_the_least_table(&rt, 8);
+}
+
+fn meet<R: Abort + AllocGlobal + Threads + Wait + Clone + Copy + Drop + Send + Sync>(
+    rt: &R,
+    game: &Arc<Game, Global>,
+) {
+    let gate = Meeting::new();
+    holds!(rt; solve_locked(rt, rt.alloc(), game, 16, 2, &gate).is_ok());
+    holds!(rt; gate.took_place());
 }
 
 #[test]
 fn two_workers_meet(rt: HostRuntime) {
-    let game = shared_game_of(&rt, &ODD_RING).expect(&rt, "a game");
-    let gate = Meeting::new();
-    holds!(&rt; solve_locked(&rt, rt.alloc(), &game, 16, 2, &gate).is_ok());
-    holds!(&rt; gate.took_place());
+    let game = shared_game(&rt, &ODD_RING);
+    meet(&rt, &game);
 }
 
 /// What is noted of a run: of each vertex how often it was read, lifted in the board's own way, and somebody's turn, and of two
@@ -151,16 +179,19 @@ fn counters(alloc: Global, count: u32) -> Result<Vec<AtomicU64>, AllocError> {
 
 // One more in the counter of a vertex or a seat.
 fn count(counters: &[AtomicU64], v: u32) {
-    if let Some(counter) = counters.get(v as usize) {
-        counter.fetch_add(1, Ordering::SeqCst);
+    let at = v as usize;
+    if at < counters.len() {
+        counters[at].fetch_add(1, Ordering::SeqCst);
     }
 }
 
 // What the counter of a vertex or a seat stands at.
 fn counted(counters: &[AtomicU64], v: u32) -> u64 {
-    match counters.get(v as usize) {
-        Some(counter) => counter.load(Ordering::SeqCst),
-        None => 0,
+    let at = v as usize;
+    if at < counters.len() {
+        counters[at].load(Ordering::SeqCst)
+    } else {
+        0
     }
 }
 
@@ -298,44 +329,68 @@ impl<'a, B: Board> Board for Noted<'a, B> {
     }
 }
 
-// Whether workers over a noted board end well.
-fn ends_well_on<B: Board + Drop + Sync, R: Threads + Wait + Sync>(
+// Workers lift over a board, of which is noted what they do.
+fn lift_noted<B: Board + Drop + Sync, R: Abort + AllocGlobal + Threads + Wait + Sync>(
     rt: &R,
-    alloc: Global,
     game: &Arc<Game, Global>,
-    inner: B,
+    inner: &B,
+    notes: &Notes,
+)
+    requires { B.game inner.now ≡ arc_value game.now }
+{
+    let board = Noted { inner, game, notes };
+    let _ = solve_from(
+        rt,
+        rt.alloc(),
+        game,
+        opened(rt, game),
+        board,
+        notes.workers,
+        notes,
+    );
+}
+
+// Whether they end well.
+fn ends_well_on<B: Board + Drop + Sync, R: Abort + AllocGlobal + Threads + Wait + Sync>(
+    rt: &R,
+    game: &Arc<Game, Global>,
+    inner: &B,
     notes: &Notes,
 ) -> bool
-    requires { B.game inner ≡ arc_value game.now }
+    requires { B.game inner.now ≡ arc_value game.now }
 {
-    let Ok(table) = opening(alloc, game) else {
-        return false;
-    };
-    let Ok(mut left) = opening(alloc, game) else {
-        return false;
-    };
-    let board = Noted {
-        inner: &inner,
-        game,
-        notes,
-    };
-    let _ = solve_from(rt, alloc, game, table, board, notes.workers, notes);
-    finish(&inner, game, &mut left);
-    notes.ended_well() && notes.both_came() && is_settled(game, &left)
+    lift_noted(rt, game, inner, notes);
+    let is_left_settled = is_finished_settled(rt, inner, game);
+    notes.ended_well() && notes.both_came() && is_left_settled
+}
+
+// Nothing is noted yet of so many workers.
+fn new_notes(rt: &(impl Abort + AllocGlobal), game: &Game, workers: usize) -> Notes
+    requires { 0 < workers }
+{
+    Notes::new(rt.alloc(), game.vertices(), workers).expect(rt, "memory")
 }
 
 // Whether they do over shards under locks.
 fn ends_well<
     K: GameName + Send + Sync,
-    R: Abort + Threads + Wait + Clone + Copy + Drop + Send + Sync,
->(rt: &R, alloc: Global, game: &Arc<Game, Global>, workers: usize) -> bool
+    R: Abort + AllocGlobal + Threads + Wait + Clone + Copy + Drop + Send + Sync,
+>(rt: &R, game: &Arc<Game, Global>, workers: usize) -> bool
     requires named { arc_value game.now ≡ K.game }
     requires workers { 0 < workers }
 {
-    let notes = Notes::new(alloc, game.vertices(), workers).expect(rt, "memory");
-    let shared = Arc::try_clone(game).expect(rt, "memory");
-    let inner = LockedBoard::<K, R>::new(*rt, alloc, shared, 16).expect(rt, "memory");
-    ends_well_on(rt, alloc, game, inner, &notes) && notes.are_read(game)
+    let notes = new_notes(rt, game, workers);
+    ends_well_noted::<K, R>(rt, game, &notes)
+}
+
+fn ends_well_noted<
+    K: GameName + Send + Sync,
+    R: Abort + AllocGlobal + Threads + Wait + Clone + Copy + Drop + Send + Sync,
+>(rt: &R, game: &Arc<Game, Global>, notes: &Notes) -> bool
+    requires { arc_value game.now ≡ K.game }
+{
+    let inner = board_of_shards::<K, R>(rt, game, 16);
+    ends_well_on(rt, game, &inner, notes) && notes.are_read(game)
 }
 
 /// Whether workers over shards under locks leave nothing to lift.
@@ -344,7 +399,7 @@ pub fn end_well_over_shards<
 >(rt: &R, game: &Arc<Game, Global>, workers: usize) -> bool
     requires { 0 < workers }
 {
-    ends_well::<Brand, R>(rt, rt.alloc(), game, workers)
+    ends_well::<Brand, R>(rt, game, workers)
 }
 
 // The same of the game of these vertices.
@@ -355,7 +410,7 @@ fn all_end_well<R: Abort + AllocGlobal + Threads + Wait + Clone + Copy + Drop + 
 ) -> bool
     requires { 0 < workers }
 {
-    let game = shared_game_of(rt, rows).expect(rt, "a game");
+    let game = shared_game(rt, rows);
     end_well_over_shards(rt, &game, workers)
 }
 
@@ -367,10 +422,9 @@ pub fn end_well_over_words<R: Abort + AllocGlobal + Threads + Wait + Sync>(
 ) -> bool
     requires { 0 < workers }
 {
-    let notes = Notes::new(rt.alloc(), game.vertices(), workers).expect(rt, "memory");
-    let shared = Arc::try_clone(game).expect(rt, "memory");
-    let inner = PackedBoard::new(rt.alloc(), shared, 1).expect(rt, "a board");
-    ends_well_on(rt, rt.alloc(), game, inner, &notes) && notes.are_own(game)
+    let notes = new_notes(rt, game, workers);
+    let inner = board_of_words(rt, game, 1);
+    ends_well_on(rt, game, &inner, &notes) && notes.are_own(game)
 }
 
 // The same of the game of these vertices.
@@ -381,20 +435,43 @@ fn all_end_well_over_words<R: Abort + AllocGlobal + Threads + Wait + Sync>(
 ) -> bool
     requires { 0 < workers }
 {
-    let game = shared_game_of(rt, rows).expect(rt, "a game");
+    let game = shared_game(rt, rows);
     end_well_over_words(rt, &game, workers)
 }
 
 /// Whether the table that workers begin with leaves something to lift.
 pub fn is_left(rt: &(impl Abort + AllocGlobal), game: &Game) -> bool {
-    let first = opening(rt.alloc(), game).expect(rt, "memory");
+    let first = opened(rt, game);
     !is_settled(game, &first)
 }
 
 // The same of the game of these vertices.
 fn is_left_to_workers(rt: &(impl Abort + AllocGlobal), rows: &[Row]) -> bool {
-    let game = shared_game_of(rt, rows).expect(rt, "a game");
+    let game = shared_game(rt, rows);
     is_left(rt, &game)
+}
+
+// So many workers leave nothing to lift of any of the games.
+fn leave_nothing<R: Abort + AllocGlobal + Threads + Wait + Clone + Copy + Drop + Send + Sync>(
+    rt: &R,
+    workers: usize,
+)
+    requires { 0 < workers }
+{
+    let number = workers as u64;
+    holds_of(
+        rt,
+        all_end_well(rt, &ODD_RING, workers),
+        "on a ring",
+        number,
+    );
+    holds_of(rt, all_end_well(rt, &WAY, workers), "on a way", number);
+    holds_of(
+        rt,
+        all_end_well(rt, &TWO_RINGS, workers),
+        "on two rings",
+        number,
+    );
 }
 
 // Settled is what no lift raises, which is looked up at each vertex. The opening table is settled of none of these games, so it is
@@ -404,34 +481,39 @@ fn workers_leave_nothing_to_lift(rt: HostRuntime) {
     holds!(&rt; is_left_to_workers(&rt, &ODD_RING));
     holds!(&rt; is_left_to_workers(&rt, &WAY));
     holds!(&rt; is_left_to_workers(&rt, &TWO_RINGS));
-    for workers in [1, 2, 8] {
-        assert!(rt;
-            all_end_well(&rt, &ODD_RING, workers),
-            "{workers} on a ring"
-        );
-        assert!(rt; all_end_well(&rt, &WAY, workers), "{workers} on a way");
-        assert!(rt;
-            all_end_well(&rt, &TWO_RINGS, workers),
-            "{workers} on two rings"
-        );
-    }
+    leave_nothing(&rt, 1);
+    leave_nothing(&rt, 2);
+    leave_nothing(&rt, 8);
 }
 
 // The same over words.
+fn leave_nothing_over_words<R: Abort + AllocGlobal + Threads + Wait + Sync>(rt: &R, workers: usize)
+    requires { 0 < workers }
+{
+    let number = workers as u64;
+    holds_of(
+        rt,
+        all_end_well_over_words(rt, &ODD_RING, workers),
+        "on a ring",
+        number,
+    );
+    holds_of(
+        rt,
+        all_end_well_over_words(rt, &WAY, workers),
+        "on a way",
+        number,
+    );
+    holds_of(
+        rt,
+        all_end_well_over_words(rt, &TWO_RINGS, workers),
+        "on two rings",
+        number,
+    );
+}
+
 #[test]
 fn workers_leave_nothing_to_lift_over_words(rt: HostRuntime) {
-    for workers in [1, 2, 8] {
-        assert!(rt;
-            all_end_well_over_words(&rt, &ODD_RING, workers),
-            "{workers} on a ring"
-        );
-        assert!(rt;
-            all_end_well_over_words(&rt, &WAY, workers),
-            "{workers} on a way"
-        );
-        assert!(rt;
-            all_end_well_over_words(&rt, &TWO_RINGS, workers),
-            "{workers} on two rings"
-        );
-    }
+    leave_nothing_over_words(&rt, 1);
+    leave_nothing_over_words(&rt, 2);
+    leave_nothing_over_words(&rt, 8);
 }

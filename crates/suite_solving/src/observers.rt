@@ -1,14 +1,15 @@
 // What observers are told. The numbers of vertices are counted by hand; a lift is told of after each 4,096th, and one sweep over
 // all vertices lifts each of them once.
 
-use crate::common::holds;
-use game::build::build;
+use crate::common::{holds, holds_of};
 use game::graph::Game;
 use gauge::Gauge;
 use measures::guess::NoGuess;
 use measures::observer::{Observer, Stage};
 use measures::settle::solve_one_seen;
-use samples::texts::{form_of, ring, system_read};
+use samples::games::shared_arena_of;
+use samples::texts::ring;
+use std::alloc::Global;
 use std::process::Abort;
 use std::sync::atomic::{AtomicU64, Ordering};
 use std::sync::{Arc, Wait};
@@ -57,49 +58,71 @@ impl Observer for Tally {
 }
 
 /// The game of a formula with seven nodes at a ring of 2,500 states: 17,502 vertices.
-fn game_of_the_ring(rt: &(impl Abort + AllocGlobal + Threads + Sync)) -> Game {
-    let text = ring(rt.alloc(), 2500).expect(rt, "memory");
-    let system = system_read(rt.alloc(), text.as_str()).expect(rt, "a system");
-    let form = form_of(rt.alloc(), "nu X. mu Y. (<a>X || <b>Y)").expect(rt, "a normal form");
-    build(rt, rt.alloc(), &system, &form).expect(rt, "a game")
+fn game_of_the_ring(rt: &(impl Abort + AllocGlobal + Threads + Sync)) -> Arc<Game, Global> {
+    let system = ring(rt.alloc(), 2500).expect(rt, "memory");
+    shared_arena_of(rt, system.as_str(), "nu X. mu Y. (<a>X || <b>Y)").expect(rt, "a game")
+}
+
+impl Tally {
+    /// One search of so many vertices was told of.
+    fn has_search(&self, rt: &impl Abort) {
+        holds!(rt; self.searches.load(Ordering::SeqCst) == 1);
+    }
+
+    /// So many lifts were told of at last, and they are some thousands.
+    fn last_lifts(&self, rt: &impl Abort, fewest: u64) -> u64 {
+        let lifts = self.lifts.load(Ordering::SeqCst);
+        holds_of(rt, lifts >= fewest && lifts % 4096 == 0, "lifts are", lifts);
+        lifts
+    }
+
+    /// Lifts were told of so often.
+    fn has_tellings(&self, rt: &impl Abort, wanted: u64) {
+        holds!(rt; self.tellings.load(Ordering::SeqCst) == wanted);
+    }
+}
+
+fn is_solved_by_one(rt: &(impl Abort + AllocGlobal), game: &Game, tally: &Tally) {
+    holds!(rt; solve_one_seen(rt.alloc(), game, tally).is_ok());
+}
+
+fn tells_of_one(rt: &(impl Abort + AllocGlobal), game: &Game) {
+    let tally = Tally::new();
+    is_solved_by_one(rt, game, &tally);
+    tally.has_search(rt);
+    holds!(rt; tally.vertices.load(Ordering::SeqCst) == 17502);
+    let lifts = tally.last_lifts(rt, 16384);
+    // The first telling is of no lift, and then there is one for each 4,096.
+    tally.has_tellings(rt, 1 + lifts / 4096);
 }
 
 #[test]
 fn one_thread_tells_of_the_search_and_of_lifts(rt: HostRuntime) {
     let game = game_of_the_ring(&rt);
-    let tally = Tally::new();
-    let solved = solve_one_seen(rt.alloc(), &game, &tally);
-    holds!(&rt; solved.is_ok());
-    holds!(&rt; tally.searches.load(Ordering::SeqCst) == 1);
-    holds!(&rt; tally.vertices.load(Ordering::SeqCst) == 17502);
-    let lifts = tally.lifts.load(Ordering::SeqCst);
-    assert!(rt; lifts >= 16384 && lifts % 4096 == 0, "{lifts}");
-    // The first telling is of no lift, and then there is one for each 4,096.
-    holds!(&rt; tally.tellings.load(Ordering::SeqCst) == 1 + lifts / 4096);
+    tells_of_one(&rt, &game);
 }
 
 /// Each vertex is a job of some worker once at least, so of 17,502 lifts by two workers one at least tells of 4,096.
 fn tells_of_workers<R: Abort + AllocGlobal + Threads + Wait + Clone + Copy + Drop + Send + Sync>(
     rt: &R,
+    game: &Arc<Game, Global>,
     board: BoardKind,
 ) {
-    let game = Arc::new(rt.alloc(), game_of_the_ring(rt)).expect(rt, "memory");
     let tally = Tally::new();
     let team = Team {
         workers: 2,
         shards: 16,
         board,
     };
-    let solved = solve_by(rt, rt.alloc(), &game, &team, &NoGate, &tally, &NoGuess);
-    holds!(rt; solved.is_ok());
-    holds!(rt; tally.searches.load(Ordering::SeqCst) == 1);
-    let lifts = tally.lifts.load(Ordering::SeqCst);
-    assert!(rt; lifts >= 4096 && lifts % 4096 == 0, "{lifts}");
-    holds!(rt; tally.tellings.load(Ordering::SeqCst) == lifts / 4096);
+    holds!(rt; solve_by(rt, rt.alloc(), game, &team, &NoGate, &tally, &NoGuess).is_ok());
+    tally.has_search(rt);
+    let lifts = tally.last_lifts(rt, 4096);
+    tally.has_tellings(rt, lifts / 4096);
 }
 
 #[test]
 fn workers_tell_of_lifts(rt: HostRuntime) {
-    tells_of_workers(&rt, BoardKind::Locked);
-    tells_of_workers(&rt, BoardKind::Packed)
+    let game = game_of_the_ring(&rt);
+    tells_of_workers(&rt, &game, BoardKind::Locked);
+    tells_of_workers(&rt, &game, BoardKind::Packed)
 }

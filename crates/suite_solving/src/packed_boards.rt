@@ -1,51 +1,47 @@
 // Ranks of measures, and the board of one word for each vertex, by worked examples of small games.
 
 ghost use Rattle.std.specs.Prelude.{◌≡◌, ◌<◌, ◌≤◌, length};
-ghost use Rattle.tables.specs.Seats.{board_game};
+ghost use Rattle.tables.specs.Seats.{board_game, IsSeatOf};
 
-use crate::common::holds;
+use crate::boards::{diamond, is_finished, rises_to_the_settled};
+use crate::climbing_workers::built;
+use crate::common::{board_of_words, holds};
 use crate::progress_measures::{LEAST, is_as_wanted, nested_binders_game};
 use game::graph::{Game, GameBuilder};
 use game::player::Player;
 use measures::measure::Measure;
 use measures::progs::is_measure;
 use measures::rank::{of_rank, rank, top_rank};
-use measures::settle::settle;
-use measures::table::opening;
-use samples::games::{Row, push_row, shared_game_of};
+use measures::table::PlainTable;
+use samples::games::push_row;
+use std::alloc::{AllocError, Global};
 use std::process::Abort;
 use std::sync::Arc;
-use std::thread::map_indices;
-use tables::board::{Board, finish};
+use std::thread::{Threads, map_indices};
+use tables::board::Board;
 use tables::error::TableError;
-use tables::packed::PackedBoard;
-
-// The game of `<a>true` on two states, of which the first leads to the second by a, and the second to the first by b. Vertex 4
-// leads to the false sink alone.
-static DIAMOND: [Row; 6] = [
-    (Player::Even, 0, &[0]),
-    (Player::Even, 1, &[1]),
-    (Player::Even, 0, &[5]),
-    (Player::Even, 0, &[0]),
-    (Player::Even, 0, &[1]),
-    (Player::Even, 0, &[0]),
-];
+use tables::packed::{PackedBoard, PackedSeat};
 
 // How often one thread looks for what another does.
 const TURNS: u32 = 10_000_000;
 
-// Loops of Even: 15 of each odd priority from 3 to 31, and so many of priority 1.
-fn loops(rt: &(impl Abort + AllocGlobal), ones: u32) -> Game {
-    let mut builder = GameBuilder::new(rt.alloc());
-    let mut v = 0;
-    for half in 0..16u8 {
-        let times = if half == 0 { ones } else { 15 };
-        for _ in 0..times {
-            push_row(&mut builder, Player::Even, 2 * half + 1, &[v]).expect(rt, "memory");
-            v = v.wrapping_add(1);
-        }
+// Loops of Even of a priority, so many of them.
+fn push_loops(builder: &mut GameBuilder, priority: u8, times: u32) -> Result<(), AllocError> {
+    for _ in 0..times {
+        let v = builder.vertices() as u32;
+        push_row(builder, Player::Even, priority, &[v])?;
     }
-    builder.finish().expect(rt, "a game")
+    Ok(())
+}
+
+// 15 loops of each odd priority from 3 to 31, and so many of priority 1.
+fn loops(rt: &(impl Abort + AllocGlobal), ones: u32) -> Arc<Game, Global> {
+    let mut builder = GameBuilder::new(rt.alloc());
+    holds!(rt; push_loops(&mut builder, 1, ones).is_ok());
+    for half in 1..16u8 {
+        holds!(rt; push_loops(&mut builder, 2 * half + 1, 15).is_ok());
+    }
+    built(rt, builder)
 }
 
 // The counts of a measure of the game have this rank, and the rank has them.
@@ -60,6 +56,15 @@ fn has_rank(rt: &impl Abort, game: &Game, counts: &[u32; 2], wanted: u64) {
     holds!(rt; of_rank(game, wanted).counts() == counts.as_slice());
 }
 
+// Top has this rank, the last one.
+fn has_top(rt: &impl Abort, game: &Game, wanted: u64) {
+    let Some(top) = top_rank(game) else {
+        panic!(rt; "no rank")
+    };
+    holds!(rt; top == wanted);
+    holds!(rt; of_rank(game, top).is_top());
+}
+
 #[test]
 fn the_rank_is_the_number_of_the_lesser_measures(rt: HostRuntime) {
     let game = nested_binders_game(&rt);
@@ -67,81 +72,97 @@ fn the_rank_is_the_number_of_the_lesser_measures(rt: HostRuntime) {
     has_rank(&rt, &game, &[2, 0], 8);
     has_rank(&rt, &game, &[0, 0], 0);
     has_rank(&rt, &game, &[2, 3], 11);
-    let Some(top) = top_rank(&game) else {
-        panic!(&rt; "no rank")
-    };
-    holds!(&rt; top == 12);
-    holds!(&rt; of_rank(&game, top).is_top());
+    has_top(&rt, &game, 12);
+}
+
+// The board of the game, or why there is none.
+fn is_refused(rt: &impl AllocGlobal, game: Arc<Game, Global>) -> bool {
+    let board = PackedBoard::new(rt.alloc(), game, 1);
+    matches!(&board, Err(TableError::TooManyRanks))
+}
+
+fn is_made(rt: &impl AllocGlobal, game: Arc<Game, Global>) -> bool {
+    PackedBoard::new(rt.alloc(), game, 1).is_ok()
 }
 
 #[test]
 fn top_has_a_rank_just_below_the_limit(rt: HostRuntime) {
-    let many = Arc::new(rt.alloc(), loops(&rt, 3)).expect(&rt, "memory");
+    let many = loops(&rt, 3);
     holds!(&rt; top_rank(&many).is_none());
-    let refused = PackedBoard::new(rt.alloc(), many, 1);
-    holds!(&rt; matches!(&refused, Err(TableError::TooManyRanks)));
-    let few = Arc::new(rt.alloc(), loops(&rt, 2)).expect(&rt, "memory");
+    holds!(&rt; is_refused(&rt, many));
+    let few = loops(&rt, 2);
     holds!(&rt; top_rank(&few) == Some(3 << 60));
-    let board = PackedBoard::new(rt.alloc(), few, 1);
-    holds!(&rt; board.is_ok());
+    holds!(&rt; is_made(&rt, few));
+}
+
+// A board of the diamond, for so many seats.
+fn diamond_board(rt: &(impl Abort + AllocGlobal), seats: u32) -> PackedBoard
+    requires { 0 < seats }
+    ensures { 4 < length (board_game result).vertices }
+{
+    let game = diamond(rt);
+    board_of_words(rt, &game, seats)
+}
+
+fn new_seat(rt: &impl Abort, board: &PackedBoard) -> PackedSeat
+    ensures { IsSeatOf board.now result }
+{
+    board.new_seat().expect(rt, "a seat")
+}
+
+// What the board comes to when its seat is given back.
+fn closed(rt: &(impl Abort + AllocGlobal), board: PackedBoard, seat: PackedSeat) -> PlainTable
+    requires { IsSeatOf board seat }
+    ensures { result.game ≡ board_game board }
+{
+    board.close(rt.alloc(), seat).expect(rt, "a table")
+}
+
+// A vertex rises by its first lift, and by no other.
+fn is_lifted_once(rt: &impl Abort, board: &PackedBoard, seat: &mut PackedSeat)
+    requires seat { IsSeatOf board.now seat.old }
+    requires vertex { 4 < length (board_game board.now).vertices }
+    ensures { IsSeatOf board.now seat.new }
+{
+    holds!(rt; board.load(seat, 4).counts() == [0].as_slice());
+    holds!(rt; board.lift(seat, 4), "it rises");
+    holds!(rt; board.load(seat, 4).is_top());
+    holds!(rt; !board.lift(seat, 4), "it rises once");
 }
 
 #[test]
 fn a_vertex_is_lifted_once(rt: HostRuntime) {
-    let game = shared_game_of(&rt, &DIAMOND).expect(&rt, "a game");
-    holds!(&rt; 4 < game.vertices());
-    let Ok(board) = PackedBoard::new(rt.alloc(), game, 1) else {
-        panic!(&rt; "no board")
-    };
-    let Some(mut seat) = board.new_seat() else {
-        panic!(&rt; "no seat")
-    };
-    holds!(&rt; board.load(&mut seat, 4).counts() == [0].as_slice());
-    holds!(&rt; board.lift(&mut seat, 4), "it rises");
-    holds!(&rt; board.load(&mut seat, 4).is_top());
-    holds!(&rt; !board.lift(&mut seat, 4), "it rises once");
-    let Ok(table) = board.close(rt.alloc(), seat) else {
-        panic!(&rt; "no table")
-    };
+    let board = diamond_board(&rt, 1);
+    let mut seat = new_seat(&rt, &board);
+    is_lifted_once(&rt, &board, &mut seat);
+    let table = closed(&rt, board, seat);
     holds!(&rt; table.value(4).is_top());
 }
 
 #[test]
 fn a_vertex_is_raised_once(rt: HostRuntime) {
-    let game = shared_game_of(&rt, &DIAMOND).expect(&rt, "a game");
-    holds!(&rt; 4 < game.vertices());
-    let mut source = opening(rt.alloc(), &game).expect(&rt, "memory");
-    settle(&game, &mut source);
-    let top = source.value(4);
-    let mut table = opening(rt.alloc(), &game).expect(&rt, "memory");
-    let shared = Arc::try_clone(&game).expect(&rt, "memory");
-    let Ok(board) = PackedBoard::new(rt.alloc(), shared, 1) else {
-        panic!(&rt; "no board")
-    };
+    let game = diamond(&rt);
+    let board = board_of_words(&rt, &game, 1);
+    rises_to_the_settled(&rt, &board, &game);
+    is_finished(&rt, &board, &game);
+}
+
+// A vertex rises by the first lift in the board's own way, and by no other.
+fn is_lifted_in_its_own_way<B: Board>(rt: &impl Abort, board: &B)
+    requires { 4 < length (B.game board.now).vertices }
+{
     let Ok(mut seat) = board.seat() else {
-        panic!(&rt; "no seat")
+        panic!(rt; "no seat")
     };
-    holds!(&rt; board.read(&mut seat, 4).counts() == [0].as_slice());
-    holds!(&rt; board.raise(&mut seat, 4, &top), "it rises");
-    holds!(&rt; board.read(&mut seat, 4).is_top(), "it is read");
-    holds!(&rt; !board.raise(&mut seat, 4, &top), "it rises once");
-    finish(&board, &game, &mut table);
-    holds!(&rt; table.value(4).is_top() && !table.value(2).is_top());
+    holds!(rt; matches!(board.own_lift(&mut seat, 4), Some(true)), "it rises");
+    holds!(rt; board.read(&mut seat, 4).is_top(), "it is read");
+    holds!(rt; matches!(board.own_lift(&mut seat, 4), Some(false)), "it rises once");
 }
 
 #[test]
 fn a_vertex_is_lifted_in_the_board_s_own_way(rt: HostRuntime) {
-    let game = shared_game_of(&rt, &DIAMOND).expect(&rt, "a game");
-    holds!(&rt; 4 < game.vertices());
-    let Ok(board) = PackedBoard::new(rt.alloc(), game, 1) else {
-        panic!(&rt; "no board")
-    };
-    let Ok(mut seat) = board.seat() else {
-        panic!(&rt; "no seat")
-    };
-    holds!(&rt; board.own_lift(&mut seat, 4) == Some(true), "it rises");
-    holds!(&rt; board.read(&mut seat, 4).is_top(), "it is read");
-    holds!(&rt; board.own_lift(&mut seat, 4) == Some(false), "it rises once");
+    let board = diamond_board(&rt, 1);
+    is_lifted_in_its_own_way(&rt, &board);
 }
 
 // One thread lifts a vertex, and the other looks at it until it is top.
@@ -162,24 +183,25 @@ fn lifts_or_looks(board: &PackedBoard, thread: usize) -> bool
     false
 }
 
-#[test]
-fn what_one_seat_lifts_another_sees(rt: HostRuntime) {
-    let game = shared_game_of(&rt, &DIAMOND).expect(&rt, "a game");
-    holds!(&rt; 4 < game.vertices());
-    let Ok(board) = PackedBoard::new(rt.alloc(), game, 2) else {
-        panic!(&rt; "no board")
-    };
-    let board = &board;
+fn is_seen_by_another<R: Abort + AllocGlobal + Threads + Sync>(rt: &R, board: &PackedBoard)
+    requires { 4 < length (board_game board.now).vertices }
+{
     let seen = map_indices(
-        &rt,
+        rt,
         rt.alloc(),
         2,
         &|thread: usize|
             requires { 4 < length (board_game board.now).vertices }
         { lifts_or_looks(board, thread) },
     )
-    .expect(&rt, "memory");
-    holds!(&rt; seen.iter().all(|seen| *seen));
+    .expect(rt, "memory");
+    holds!(rt; !seen.contains(&false), "what one lifts another sees");
+}
+
+#[test]
+fn what_one_seat_lifts_another_sees(rt: HostRuntime) {
+    let board = diamond_board(&rt, 2);
+    is_seen_by_another(&rt, &board);
 }
 
 // A seat settles the board, and then loads the least measures.
@@ -198,22 +220,25 @@ fn settles_least(board: &PackedBoard) -> bool
     true
 }
 
-#[test]
-fn two_seats_settle_at_once(rt: HostRuntime) {
-    let game = Arc::new(rt.alloc(), nested_binders_game(&rt)).expect(&rt, "memory");
-    holds!(&rt; 18 <= game.vertices());
-    let Ok(board) = PackedBoard::new(rt.alloc(), game, 2) else {
-        panic!(&rt; "no board")
-    };
-    let board = &board;
+fn settles_at_once<R: Abort + AllocGlobal + Threads + Sync>(rt: &R, board: &PackedBoard)
+    requires { 18 ≤ length (board_game board.now).vertices }
+{
     let least = map_indices(
-        &rt,
+        rt,
         rt.alloc(),
         2,
         &|_thread: usize|
             requires { 18 ≤ length (board_game board.now).vertices }
         { settles_least(board) },
     )
-    .expect(&rt, "memory");
-    holds!(&rt; least.iter().all(|least| *least));
+    .expect(rt, "memory");
+    holds!(rt; !least.contains(&false), "both settle the board");
+}
+
+#[test]
+fn two_seats_settle_at_once(rt: HostRuntime) {
+    let game = Arc::new(rt.alloc(), nested_binders_game(&rt)).expect(&rt, "memory");
+    holds!(&rt; 18 <= game.vertices());
+    let board = board_of_words(&rt, &game, 2);
+    settles_at_once(&rt, &board);
 }

@@ -3,14 +3,14 @@
 
 ghost use Rattle.std.specs.Prelude.{◌≡◌, ◌<◌, length};
 
-use crate::common::holds;
+use crate::common::{game_from, holds, holds_of, least, opened, settled};
 use game::graph::Game;
 use game::player::Player;
 use measures::measure::Measure;
 use measures::progs::{is_measure, lift, prog};
-use measures::settle::{even_wins, is_settled, settle, solve_one};
-use measures::table::{PlainTable, opening};
-use samples::games::{Row, game_of_rows};
+use measures::settle::{even_wins, is_settled, settle};
+use measures::table::{PlainTable, Settled};
+use samples::games::Row;
 use std::process::Abort;
 
 // The game of `mu Z. nu Y. mu X. (<a>Z || <b>Y)` on the system whose first state leads by a to the second, which leads by b
@@ -68,7 +68,7 @@ static PROGS: [(u32, [u32; 2], Option<[u32; 2]>); 5] = [
 ];
 
 pub fn nested_binders_game(rt: &(impl Abort + AllocGlobal)) -> Game {
-    game_of_rows(rt, &NESTED).expect(rt, "a game")
+    game_from(rt, &NESTED)
 }
 
 pub fn is_as_wanted(m: &Measure, want: &Option<[u32; 2]>) -> bool {
@@ -78,23 +78,40 @@ pub fn is_as_wanted(m: &Measure, want: &Option<[u32; 2]>) -> bool {
     }
 }
 
+// A vertex has this measure in the table.
+fn is_least_at(rt: &impl Abort, game: &Game, table: &Settled, v: u32, want: &Option<[u32; 2]>)
+    requires { table.now.game ≡ game.now }
+{
+    holds!(rt; v < game.vertices());
+    holds_of(rt, is_as_wanted(&table.value(v), want), "at", u64::from(v));
+}
+
+fn are_least(rt: &impl Abort, game: &Game, table: &Settled)
+    requires { table.now.game ≡ game.now }
+{
+    for v in 0..18u32 {
+        is_least_at(rt, game, table, v, &LEAST[v as usize]);
+    }
+}
+
 #[test]
 fn finds_the_least_measures(rt: HostRuntime) {
     let game = nested_binders_game(&rt);
-    let settled = solve_one(rt.alloc(), &game).expect(&rt, "memory");
-    for (v, want) in (0..18).zip(LEAST.iter()) {
-        holds!(&rt; v < game.vertices());
-        assert!(rt; is_as_wanted(&settled.value(v), want), "at {v}");
-    }
+    let table = least(&rt, &game);
+    are_least(&rt, &game, &table);
+}
+
+fn is_settled_later(rt: &(impl Abort + AllocGlobal), game: &Game) {
+    let mut table = opened(rt, game);
+    holds!(rt; !is_settled(game, &table));
+    settle(game, &mut table);
+    holds!(rt; is_settled(game, &table));
 }
 
 #[test]
 fn settles_the_opening_table(rt: HostRuntime) {
     let game = nested_binders_game(&rt);
-    let mut table = opening(rt.alloc(), &game).expect(&rt, "memory");
-    holds!(&rt; !is_settled(&game, &table));
-    settle(&game, &mut table);
-    holds!(&rt; is_settled(&game, &table));
+    is_settled_later(&rt, &game);
 }
 
 // A table is raised at one vertex, to what another has there.
@@ -107,56 +124,77 @@ fn rises(rt: &impl Abort, table: &mut PlainTable, source: &PlainTable)
     holds!(rt; is_as_wanted(&table.value(4), &Some([0, 0])));
 }
 
+// A table of a game is raised at one vertex.
+fn rises_of(rt: &(impl Abort + AllocGlobal), game: &Game, source: &PlainTable)
+    requires { source.now.game ≡ game.now }
+{
+    holds!(rt; 4 < game.vertices());
+    rises(rt, &mut opened(rt, game), source);
+}
+
 #[test]
 fn raises_one_vertex(rt: HostRuntime) {
     let game = nested_binders_game(&rt);
-    let mut source = opening(rt.alloc(), &game).expect(&rt, "memory");
-    settle(&game, &mut source);
-    holds!(&rt; 4 < game.vertices());
-    rises(
-        &rt,
-        &mut opening(rt.alloc(), &game).expect(&rt, "memory"),
-        &source,
-    );
+    let source = settled(&rt, &game);
+    rises_of(&rt, &game, &source);
+}
+
+// A vertex asks for this where its play goes on at the measure, and is lifted to it.
+fn asks_for(rt: &impl Abort, game: &Game, v: u32, counts: &[u32; 2], want: &Option<[u32; 2]>) {
+    let m = Measure::of_counts(counts);
+    let at = u64::from(v);
+    holds!(rt; v < game.vertices());
+    holds!(rt; is_measure(game, &m));
+    holds_of(rt, is_as_wanted(&prog(game, v, &m), want), "at", at);
+    let lifted = lift(game, v, &Measure::of_counts(&[0, 0]), &[m]);
+    holds_of(rt, is_as_wanted(&lifted, want), "lifted at", at);
 }
 
 #[test]
 fn asks_for_the_least(rt: HostRuntime) {
     let game = nested_binders_game(&rt);
     for (v, counts, want) in &PROGS {
-        let m = Measure::of_counts(counts);
-        holds!(&rt; *v < game.vertices());
-        holds!(&rt; is_measure(&game, &m));
-        assert!(rt; is_as_wanted(&prog(&game, *v, &m), want), "at {v}");
-        let lifted = lift(&game, *v, &Measure::of_counts(&[0, 0]), &[m]);
-        assert!(rt; is_as_wanted(&lifted, want), "lifted at {v}");
+        asks_for(&rt, &game, *v, counts, want);
     }
 }
 
-// Whether Even wins each of two vertices between which the play goes round.
-fn wins(rt: &(impl Abort + AllocGlobal), priority: u8) -> (bool, bool) {
-    let game = game_of_rows(
-        rt,
-        &[(Player::Even, 0, &[1]), (Player::Odd, priority, &[0])],
-    )
-    .expect(rt, "a game");
-    let settled = solve_one(rt.alloc(), &game).expect(rt, "memory");
+// Even wins either both or none of two vertices between which the play goes round.
+fn wins(rt: &(impl Abort + AllocGlobal), rows: &[Row], is_won: bool) {
+    let game = game_from(rt, rows);
+    let settled = least(rt, &game);
     holds!(rt; game.vertices() == 2);
-    (even_wins(&settled, 0), even_wins(&settled, 1))
+    holds!(rt; even_wins(&settled, 0) == is_won);
+    holds!(rt; even_wins(&settled, 1) == is_won);
 }
+
+// Rounds whose greatest priority is even and odd.
+static EVEN_ROUND: [Row; 2] = [(Player::Even, 0, &[1]), (Player::Odd, 2, &[0])];
+
+static ODD_ROUND: [Row; 2] = [(Player::Even, 0, &[1]), (Player::Odd, 1, &[0])];
 
 #[test]
 fn tells_who_wins(rt: HostRuntime) {
-    holds!(&rt; wins(&rt, 2) == (true, true));
-    holds!(&rt; wins(&rt, 1) == (false, false));
+    wins(&rt, &EVEN_ROUND, true);
+    wins(&rt, &ODD_ROUND, false);
+}
+
+// The one measure is below the other, and both are below top.
+fn are_ordered(rt: &impl Abort, low: &Measure, high: &Measure) {
+    let top = Measure::top();
+    holds!(rt; low.is_below(high) && !high.copied().is_below(low));
+    holds!(rt; high.is_below(&top) && !top.is_below(high));
 }
 
 #[test]
 fn measures_are_ordered(rt: HostRuntime) {
-    for (low, high) in [([0, 3], [1, 0]), ([1, 0], [1, 3])] {
-        let low = Measure::of_counts(&low);
-        let high = Measure::of_counts(&high);
-        holds!(&rt; low.is_below(&high) && !high.copied().is_below(&low));
-        holds!(&rt; high.is_below(&Measure::top()) && !Measure::top().is_below(&high));
-    }
+    are_ordered(
+        &rt,
+        &Measure::of_counts(&[0, 3]),
+        &Measure::of_counts(&[1, 0]),
+    );
+    are_ordered(
+        &rt,
+        &Measure::of_counts(&[1, 0]),
+        &Measure::of_counts(&[1, 3]),
+    );
 }

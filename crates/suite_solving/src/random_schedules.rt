@@ -3,20 +3,22 @@
 
 ghost use Rattle.std.specs.Prelude.{◌≡◌, ◌<◌};
 
-use crate::common::holds;
-use crate::schedules::{STEP_ROWS, TWO_STEPS};
+use crate::common::{game_from, holds, holds_of, least, rolled_game};
+use crate::schedules::{STEP_ROWS, TWO_STEPS, new_core};
 use game::graph::Game;
 use liftcore::event::{Event, Outcome};
 use liftcore::machine::Core;
 use measures::measure::Measure;
-use measures::settle::solve_one;
 use measures::table::Settled;
-use samples::dice::{Dice, roll_game};
-use samples::games::game_of_rows;
+use samples::dice::Dice;
+use samples::games::Row;
 use std::alloc::{AllocError, Global};
 use std::process::Abort;
 
 const WORKERS: usize = 3;
+
+/// How many events a replay has.
+const EVENTS: u64 = 5_000;
 
 /// What outcomes tell of a run: which vertices are pending, which vertex each worker holds, and how many it owes.
 #[derive(Drop)]
@@ -48,8 +50,27 @@ impl Told {
     }
 
     fn is_quiet(&self) -> bool {
-        let is_idle = self.held.iter().all(|vertex| vertex.is_none());
-        is_idle && self.owed.iter().all(|count| *count == 0) && !self.pending.contains(&true)
+        self.is_idle() && self.owes_none() && !self.pending.contains(&true)
+    }
+
+    /// Whether no worker holds a vertex.
+    fn is_idle(&self) -> bool {
+        for vertex in &self.held {
+            if vertex.is_some() {
+                return false;
+            }
+        }
+        true
+    }
+
+    /// Whether no worker owes any.
+    fn owes_none(&self) -> bool {
+        for count in &self.owed {
+            if *count > 0 {
+                return false;
+            }
+        }
+        true
     }
 
     /// Notes an event that was done; a raise has left its worker owing so many.
@@ -66,17 +87,21 @@ impl Told {
             }
             Event::Push { worker, vertex } => {
                 put(&mut self.pending, vertex as usize, true);
-                if let Some(count) = self.owed.get_mut(worker) {
-                    *count = count.saturating_sub(1);
-                }
+                take_one(&mut self.owed, worker);
             }
         }
     }
 }
 
+fn take_one(counts: &mut [usize], at: usize) {
+    if at < counts.len() {
+        counts[at] = counts[at].saturating_sub(1);
+    }
+}
+
 fn put<T: Copy>(items: &mut [T], at: usize, item: T) {
-    if let Some(place) = items.get_mut(at) {
-        *place = item;
+    if at < items.len() {
+        items[at] = item;
     }
 }
 
@@ -90,9 +115,13 @@ fn value_at(core: &Core<'_>, v: u32) -> Measure {
 
 /// How many vertices have this successor.
 fn count_before(game: &Game, successor: u32) -> usize {
-    (0..game.vertices())
-        .filter(|v| *v < game.vertices() && game.successors(*v).contains(&successor))
-        .count()
+    let mut count = 0usize;
+    for v in 0..game.vertices() {
+        if game.successors(v).contains(&successor) {
+            count = count.saturating_add(1);
+        }
+    }
+    count
 }
 
 /// One event of the run, and what its outcome tells.
@@ -144,35 +173,63 @@ fn has_table(game: &Game, core: &Core<'_>, settled: &Settled) -> bool
     true
 }
 
-/// Replays so many events at random from the start.
-fn replay_at_random(rt: &(impl Abort + AllocGlobal), dice: &mut Dice, game: &Game, events: usize) {
+/// Events at random: what is so after each agrees with what was told.
+fn follow_at_random(
+    rt: &impl Abort,
+    dice: &mut Dice,
+    game: &Game,
+    core: &mut Core<'_>,
+    told: &mut Told,
+) {
     let vertices = game.vertices();
     holds!(rt; vertices > 0);
-    let settled = solve_one(rt.alloc(), game).expect(rt, "memory");
-    let mut core = Core::new(rt.alloc(), game, WORKERS).expect(rt, "memory");
-    let mut told = Told::new(rt.alloc(), vertices).expect(rt, "memory");
-    for number in 0..events {
-        step(game, &mut core, &mut told, roll_event(dice, vertices));
-        assert!(rt; agree(&core, &told), "{number}");
+    for number in 0..EVENTS {
+        step(game, core, told, roll_event(dice, vertices));
+        holds_of(rt, agree(core, told), "agrees at", number);
     }
-    holds!(rt; core.is_settled() == has_table(game, &core, &settled));
+}
+
+/// A core is settled where its table is the one that a single thread finds, and a quiet one is settled.
+fn is_settled_at_the_least(rt: &(impl Abort + AllocGlobal), game: &Game, core: &Core<'_>) {
+    let settled = least(rt, game);
+    holds!(rt; core.is_settled() == has_table(game, core, &settled));
     holds!(rt; core.is_settled() || !core.is_quiet());
+}
+
+/// Nothing was told yet.
+fn untold(rt: &(impl Abort + AllocGlobal), game: &Game) -> Told {
+    Told::new(rt.alloc(), game.vertices()).expect(rt, "memory")
+}
+
+/// Replays events at random by a core that has done nothing yet.
+fn replay_noted(rt: &(impl Abort + AllocGlobal), dice: &mut Dice, game: &Game, told: &mut Told) {
+    let mut core = new_core(rt, game, WORKERS);
+    follow_at_random(rt, dice, game, &mut core, told);
+    is_settled_at_the_least(rt, game, &core);
+}
+
+/// Replays events at random from the start.
+fn replay_at_random(rt: &(impl Abort + AllocGlobal), dice: &mut Dice, game: &Game) {
+    let mut told = untold(rt, game);
+    replay_noted(rt, dice, game, &mut told);
+}
+
+fn replay_often(rt: &(impl Abort + AllocGlobal), dice: &mut Dice, game: &Game) {
+    for _ in 0..20 {
+        replay_at_random(rt, dice, game);
+    }
+}
+
+fn replay_rows(rt: &(impl Abort + AllocGlobal), dice: &mut Dice, rows: &[Row]) {
+    let game = game_from(rt, rows);
+    replay_often(rt, dice, &game);
 }
 
 #[test]
 fn random_events_agree_with_their_outcomes(rt: HostRuntime) {
     let mut dice = Dice::new(6);
-    let rolled = roll_game(&rt, &mut dice, 12, 6)
-        .expect(&rt, "memory")
-        .expect(&rt, "a game");
-    let games = [
-        game_of_rows(&rt, &STEP_ROWS).expect(&rt, "a game"),
-        game_of_rows(&rt, &TWO_STEPS).expect(&rt, "a game"),
-        rolled,
-    ];
-    for game in &games {
-        for _ in 0..20 {
-            replay_at_random(&rt, &mut dice, game, 5_000);
-        }
-    }
+    let rolled = rolled_game(&rt, &mut dice, 12);
+    replay_rows(&rt, &mut dice, &STEP_ROWS);
+    replay_rows(&rt, &mut dice, &TWO_STEPS);
+    replay_often(&rt, &mut dice, &rolled);
 }

@@ -4,11 +4,10 @@
 ghost use Rattle.std.specs.Prelude.{◌≡◌, ◌<◌};
 ghost use Rattle.std.specs.Arc.{arc_value};
 
-use crate::climbing_workers::{Turns, agree};
-use crate::common::holds;
+use crate::climbing_workers::Turns;
+use crate::common::{agree, board_of_shards, board_of_words, holds, least};
 use game::graph::Game;
 use game::name::GameName;
-use measures::settle::solve_one;
 use measures::table::Settled;
 use samples::games::shared_arena_of;
 use samples::texts::RING;
@@ -18,8 +17,6 @@ use std::process::Abort;
 use std::sync::{Arc, Wait};
 use std::thread::Threads;
 use tables::board::Board;
-use tables::locked::LockedBoard;
-use tables::packed::PackedBoard;
 use workers::error::SolveError;
 use workers::solving::solve;
 
@@ -56,8 +53,7 @@ fn is_solved_over_words<R: Abort + AllocGlobal + Threads + Wait + Sync>(
     requires workers { 0 < workers }
     requires wanted { wanted.now.game ≡ arc_value game.now }
 {
-    let shared = Arc::try_clone(game).expect(rt, "memory");
-    let board = PackedBoard::new(rt.alloc(), shared, 1).expect(rt, "memory");
+    let board = board_of_words(rt, game, 1);
     is_solved_or_unbegun(rt, rt.alloc(), game, board, workers, wanted)
 }
 
@@ -70,8 +66,7 @@ fn is_solved_over_shards<
     requires workers { 0 < workers }
     requires wanted { wanted.now.game ≡ arc_value game.now }
 {
-    let shared = Arc::try_clone(game).expect(rt, "memory");
-    let board = LockedBoard::<K, R>::new(*rt, rt.alloc(), shared, SHARDS).expect(rt, "memory");
+    let board = board_of_shards::<K, R>(rt, game, SHARDS);
     is_solved_or_unbegun(rt, rt.alloc(), game, board, workers, wanted)
 }
 
@@ -87,7 +82,7 @@ fn refuses_before_turns_over_words<R: Abort + AllocGlobal + Threads + Wait + Syn
     requires { 0 < workers }
 {
     let game = often_a(rt);
-    let wanted = solve_one(rt.alloc(), &game).expect(rt, "memory");
+    let wanted = least(rt, &game);
     holds!(rt; is_solved_over_words(rt, &game, workers, &wanted));
 }
 
@@ -97,8 +92,9 @@ fn refuses_before_turns_over_shards<
     requires { 0 < workers }
 {
     let game = often_a(rt);
-    let wanted = solve_one(rt.alloc(), &game).expect(rt, "memory");
-    assert!(rt; is_solved_over_shards::<Brand, R>(rt, &game, workers, &wanted));
+    let wanted = least(rt, &game);
+    let is_so = is_solved_over_shards::<Brand, R>(rt, &game, workers, &wanted);
+    holds!(rt; is_so, "memory is refused before turns over shards");
 }
 
 #[test]

@@ -1,14 +1,16 @@
 // Schedules of workers and their replays: the worked examples of docs/FORMATS.md, on the games of `<a>true` and `<a><a>true`.
 
-use crate::common::holds;
+ghost use Rattle.std.specs.Prelude.{◌+◌, ◌<◌, ◌^◌};
+
+use crate::common::{game_from, holds};
 use game::graph::Game;
 use game::player::Player;
-use liftcore::error::{ReadError, ScheduleError, ScheduleFault};
-use liftcore::event::{Event, Outcome};
+use liftcore::error::{CoreError, ReadError, ScheduleError, ScheduleFault};
+use liftcore::event::{Event, Outcome, Tally};
 use liftcore::machine::{Core, run};
 use liftcore::schedule::{read_schedule, read_schedule_from};
 use liftcore::writer::write_replay;
-use samples::games::{Row, game_of_rows};
+use samples::games::Row;
 use samples::readers::{Halting, Slow};
 use std::process::Abort;
 use text::ReadFault;
@@ -35,17 +37,77 @@ pub static TWO_STEPS: [Row; 8] = [
     (Player::Even, 0, &[0]),
 ];
 
-// What a schedule for two workers comes to, or its refusal.
-fn replayed(rt: &(impl Abort + AllocGlobal), game: &Game, schedule: &str) -> String {
-    let events = match read_schedule(rt.alloc(), schedule.as_bytes(), 2, game.vertices()) {
-        Ok(events) => events,
-        Err(error) => return error.to_string(rt.alloc()).expect(rt, "memory"),
-    };
-    let mut core = Core::new(rt.alloc(), game, 2).expect(rt, "memory");
-    let tally = core.follow(events.as_slice());
+// A core of so many workers, none of which has done anything.
+pub(crate) fn new_core<'a>(
+    rt: &(impl Abort + AllocGlobal),
+    game: &'a Game,
+    workers: usize,
+) -> Core<'a> {
+    Core::new(rt.alloc(), game, workers).expect(rt, "memory")
+}
+
+// What a replay is written as.
+fn replay_text(rt: &(impl Abort + AllocGlobal), core: &Core<'_>, tally: Tally) -> Vec<u8>
+    requires { tally.done + tally.skipped < 2 ^ 64 }
+{
     let mut text = Vec::new(rt.alloc());
-    write_replay(&core, tally, &mut text).expect(rt, "memory");
-    String::from_utf8(text).ok().expect(rt, "a text")
+    holds!(rt; write_replay(core, tally, &mut text).is_ok());
+    text
+}
+
+// The events of two workers come to this, of which the first line stands by itself.
+fn come_to(
+    rt: &(impl Abort + AllocGlobal),
+    game: &Game,
+    events: &[Event],
+    first: &str,
+    rest: &str,
+) {
+    let mut core = new_core(rt, game, 2);
+    follow_to(rt, &mut core, events, first, rest);
+}
+
+fn follow_to(
+    rt: &(impl Abort + AllocGlobal),
+    core: &mut Core<'_>,
+    events: &[Event],
+    first: &str,
+    rest: &str,
+) {
+    let tally = core.follow(events);
+    let text = replay_text(rt, core, tally);
+    is_both(rt, text.as_slice(), first, rest);
+}
+
+// A text is two others in a row.
+fn is_both(rt: &impl Abort, text: &[u8], first: &str, rest: &str) {
+    holds!(rt; text.len() == first.len().saturating_add(rest.len()), first);
+    holds!(rt; text.starts_with(first.as_bytes()), first);
+    holds!(rt; text.ends_with(rest.as_bytes()), rest);
+}
+
+// A schedule of two workers comes to this.
+fn comes_to(rt: &(impl Abort + AllocGlobal), game: &Game, schedule: &str, first: &str, rest: &str) {
+    let read = read_schedule(rt.alloc(), schedule.as_bytes(), 2, game.vertices());
+    match &read {
+        Ok(events) => come_to(rt, game, events.as_slice(), first, rest),
+        Err(_) => holds!(rt; false, schedule),
+    }
+}
+
+// A schedule of two workers is refused so.
+fn is_refused(rt: &(impl Abort + AllocGlobal), game: &Game, schedule: &str, wanted: &str) {
+    let read = read_schedule(rt.alloc(), schedule.as_bytes(), 2, game.vertices());
+    match &read {
+        Ok(_) => holds!(rt; false, schedule),
+        Err(error) => is_told_as(rt, *error, wanted),
+    }
+}
+
+// This is told of a refusal.
+fn is_told_as(rt: &(impl Abort + AllocGlobal), error: ScheduleError, wanted: &str) {
+    let text = error.to_string(rt.alloc()).expect(rt, "memory");
+    holds!(rt; text.as_str() == wanted, wanted);
 }
 
 const STEP_RAISED: &str =
@@ -66,25 +128,45 @@ fn after(rt: &(impl Abort + AllocGlobal), first: &str, rest: &str) -> String {
 
 #[test]
 fn one_step_is_replayed(rt: HostRuntime) {
-    let game = game_of_rows(&rt, &STEP_ROWS).expect(&rt, "a game");
-    let text = replayed(&rt, &game, "take 0 4\nread 0 1\nraise 0\n");
-    let wanted = after(&rt, "events 3 done 3 skipped 0\n", STEP_RAISED);
-    holds!(&rt; text.as_str() == wanted.as_str());
-    let text = replayed(&rt, &game, "take 0 4\nread 0 1\nraise 0\nraise 0");
-    let wanted = after(&rt, "events 4 done 3 skipped 1\n", STEP_RAISED);
-    holds!(&rt; text.as_str() == wanted.as_str());
+    let game = game_from(&rt, &STEP_ROWS);
+    let (first, later) = (
+        "take 0 4\nread 0 1\nraise 0\n",
+        "take 0 4\nread 0 1\nraise 0\nraise 0",
+    );
+    comes_to(
+        &rt,
+        &game,
+        first,
+        "events 3 done 3 skipped 0\n",
+        STEP_RAISED,
+    );
+    comes_to(
+        &rt,
+        &game,
+        later,
+        "events 4 done 3 skipped 1\n",
+        STEP_RAISED,
+    );
 }
 
 #[test]
 fn a_late_read_does_no_harm(rt: HostRuntime) {
-    let game = game_of_rows(&rt, &TWO_STEPS).expect(&rt, "a game");
-    let text = replayed(&rt, &game, LATE);
-    let wanted = after(&rt, "events 13 done 13 skipped 0\n", LATE_RAISED);
-    holds!(&rt; text.as_str() == wanted.as_str());
-    let late = after(&rt, "raise 0\n", LATE);
-    let text = replayed(&rt, &game, late.as_str());
-    let wanted = after(&rt, "events 14 done 13 skipped 1\n", LATE_RAISED);
-    holds!(&rt; text.as_str() == wanted.as_str());
+    let game = game_from(&rt, &TWO_STEPS);
+    let later = after(&rt, "raise 0\n", LATE);
+    comes_to(
+        &rt,
+        &game,
+        LATE,
+        "events 13 done 13 skipped 0\n",
+        LATE_RAISED,
+    );
+    comes_to(
+        &rt,
+        &game,
+        later.as_str(),
+        "events 14 done 13 skipped 1\n",
+        LATE_RAISED,
+    );
 }
 
 // Schedules for two workers and eight vertices, and their refusals.
@@ -113,86 +195,119 @@ static REFUSED: [(&str, &str); 20] = [
 
 #[test]
 fn faulty_schedules_are_refused(rt: HostRuntime) {
-    let game = game_of_rows(&rt, &TWO_STEPS).expect(&rt, "a game");
+    let game = game_from(&rt, &TWO_STEPS);
     for (schedule, wanted) in &REFUSED {
-        let text = replayed(&rt, &game, schedule);
-        holds!(&rt; text.as_str() == *wanted);
+        is_refused(&rt, &game, schedule, wanted);
     }
 }
 
-// What a reader in such pieces gives is what the whole text does.
-const STEPS: [usize; 3] = [1, 7, 8192];
+// What a reader gives in pieces of so many bytes is what the whole text does.
+fn is_read_alike_by(
+    rt: &(impl Abort + AllocGlobal),
+    whole: &Result<Vec<Event>, ScheduleError>,
+    schedule: &str,
+    step: usize,
+) {
+    let reader = Slow {
+        left: schedule.as_bytes(),
+        step,
+        fails: false,
+    };
+    let found = read_schedule_from(rt.alloc(), reader, 2, 8);
+    holds!(rt; is_same(whole, &found), schedule);
+}
 
-fn is_read_alike(rt: &(impl Abort + AllocGlobal), schedule: &str) -> bool {
+fn is_same(
+    whole: &Result<Vec<Event>, ScheduleError>,
+    found: &Result<Vec<Event>, ReadError>,
+) -> bool {
+    match (whole, found) {
+        (Ok(events), Ok(found)) => events.as_slice() == found.as_slice(),
+        (Err(error), Err(found)) => ReadError::Schedule(*error) == *found,
+        _ => false,
+    }
+}
+
+fn is_read_alike(rt: &(impl Abort + AllocGlobal), schedule: &str) {
     let whole = read_schedule(rt.alloc(), schedule.as_bytes(), 2, 8);
-    for step in STEPS {
-        let reader = Slow {
-            left: schedule.as_bytes(),
-            step,
-            fails: false,
-        };
-        let found = read_schedule_from(rt.alloc(), reader, 2, 8);
-        let is_same = match (&whole, &found) {
-            (Ok(events), Ok(found)) => events.as_slice() == found.as_slice(),
-            (Err(error), Err(found)) => ReadError::Schedule(*error) == *found,
-            _ => false,
-        };
-        if !is_same {
-            return false;
-        }
-    }
-    true
+    is_read_alike_by(rt, &whole, schedule, 1);
+    is_read_alike_by(rt, &whole, schedule, 7);
+    is_read_alike_by(rt, &whole, schedule, 8192);
 }
+
+static PIECED: [&str; 5] = [LATE, "", "take 1 7", "raise 0\nraise 1", "push 0 6\n"];
 
 #[test]
 fn schedules_are_read_in_pieces(rt: HostRuntime) {
-    for schedule in [LATE, "", "take 1 7", "raise 0\nraise 1", "push 0 6\n"] {
-        holds!(&rt; is_read_alike(&rt, schedule), schedule);
-    }
-    for (schedule, _) in &REFUSED {
-        holds!(&rt; is_read_alike(&rt, schedule), schedule);
+    for schedule in &PIECED {
+        is_read_alike(&rt, schedule);
     }
 }
 
-// A failed read is told where the text has no fault before it, and an interrupted one is tried again.
 #[test]
-fn reads_of_schedules_fail_or_are_tried_again(rt: HostRuntime) {
-    for (schedule, wanted) in [
-        ("raise 0\ntake", ReadError::Read(ReadFault::Read)),
-        (
-            "raise 0\ntake\n",
-            ReadError::Schedule(ScheduleError::Fault {
-                fault: ScheduleFault::BadLine,
-                line: 2,
-            }),
-        ),
-    ] {
-        let reader = Slow {
-            left: schedule.as_bytes(),
-            step: 3,
-            fails: true,
-        };
-        holds!(&rt; read_schedule_from(rt.alloc(), reader, 2, 8).err() == Some(wanted));
+fn refused_schedules_are_read_in_pieces(rt: HostRuntime) {
+    for (schedule, _) in &REFUSED {
+        is_read_alike(&rt, schedule);
     }
+}
+
+// A schedule whose reader fails behind it is refused so.
+fn is_unread(rt: &(impl Abort + AllocGlobal), schedule: &str, wanted: ReadError) {
+    let reader = Slow {
+        left: schedule.as_bytes(),
+        step: 3,
+        fails: true,
+    };
+    let read = read_schedule_from(rt.alloc(), reader, 2, 8);
+    holds!(rt; is_error(&read, wanted), schedule);
+}
+
+fn is_error(read: &Result<Vec<Event>, ReadError>, wanted: ReadError) -> bool {
+    match read {
+        Ok(_) => false,
+        Err(error) => *error == wanted,
+    }
+}
+
+// A failed read is told where the text has no fault before it.
+#[test]
+fn failed_reads_of_schedules_are_told(rt: HostRuntime) {
+    let fault = ScheduleError::Fault {
+        fault: ScheduleFault::BadLine,
+        line: 2,
+    };
+    is_unread(&rt, "raise 0\ntake", ReadError::Read(ReadFault::Read));
+    is_unread(&rt, "raise 0\ntake\n", ReadError::Schedule(fault));
+}
+
+// An interrupted read is tried again.
+#[test]
+fn interrupted_reads_of_schedules_are_tried_again(rt: HostRuntime) {
     let reader = Halting {
         left: LATE.as_bytes(),
         is_interrupted: false,
     };
-    let events = read_schedule_from(rt.alloc(), reader, 2, 8).expect(&rt, "events");
-    holds!(&rt; events.len() == 13);
+    let read = read_schedule_from(rt.alloc(), reader, 2, 8);
+    holds!(&rt; has_events(&read, 13));
+}
+
+fn has_events(read: &Result<Vec<Event>, ReadError>, count: usize) -> bool {
+    match read {
+        Ok(events) => events.len() == count,
+        Err(_) => false,
+    }
 }
 
 #[test]
 fn the_empty_text_is_a_schedule(rt: HostRuntime) {
-    let game = game_of_rows(&rt, &STEP_ROWS).expect(&rt, "a game");
-    let text = replayed(&rt, &game, "");
-    let wanted =
-        "events 0 done 0 skipped 0\n0 (0)\n1 top\n2 (0)\n3 (0)\n4 (0)\n5 (0)\npending 0,1,2,3,4,5\nsettled no\nquiet no\n";
-    holds!(&rt; text.as_str() == wanted);
+    let rest =
+        "0 (0)\n1 top\n2 (0)\n3 (0)\n4 (0)\n5 (0)\npending 0,1,2,3,4,5\nsettled no\nquiet no\n";
+    let game = game_from(&rt, &STEP_ROWS);
+    comes_to(&rt, &game, "", "events 0 done 0 skipped 0\n", rest);
 }
 
 // Events that one worker can't do at first: it has no vertex in hand, there is no second worker, and the game has six vertices.
-const NOT_YET: [Event; 5] = [
+static NOT_YET: [Event; 5] = [
     Event::Read {
         worker: 0,
         vertex: 1,
@@ -213,7 +328,7 @@ const NOT_YET: [Event; 5] = [
 ];
 
 // A worker takes the fourth vertex, and can then neither take another one nor read one that isn't a successor.
-const TAKEN: [(Event, Outcome); 3] = [
+static TAKEN: [(Event, Outcome); 3] = [
     (
         Event::Take {
             worker: 0,
@@ -237,50 +352,97 @@ const TAKEN: [(Event, Outcome); 3] = [
     ),
 ];
 
+fn are_skipped(rt: &impl Abort, core: &mut Core<'_>) {
+    for event in &NOT_YET {
+        holds!(rt; core.step(*event) == Outcome::Skipped);
+    }
+}
+
+fn come_out(rt: &impl Abort, core: &mut Core<'_>) {
+    for (event, outcome) in &TAKEN {
+        holds!(rt; core.step(*event) == *outcome);
+    }
+}
+
+fn is_stepped(rt: &impl Abort, core: &mut Core<'_>) {
+    are_skipped(rt, core);
+    come_out(rt, core);
+    holds!(rt; !core.is_pending(4) && core.is_pending(5));
+}
+
+fn cannot_be_done(rt: &(impl Abort + AllocGlobal), game: &Game) {
+    let mut core = new_core(rt, game, 1);
+    is_stepped(rt, &mut core);
+}
+
 #[test]
 fn events_that_cannot_be_done_are_skipped(rt: HostRuntime) {
-    let game = game_of_rows(&rt, &STEP_ROWS).expect(&rt, "a game");
-    let mut core = Core::new(rt.alloc(), &game, 1).expect(&rt, "memory");
-    for event in NOT_YET {
-        holds!(&rt; core.step(event) == Outcome::Skipped);
+    let game = game_from(&rt, &STEP_ROWS);
+    cannot_be_done(&rt, &game);
+}
+
+// The first worker takes a vertex, reads one of its successors and raises it.
+fn lift_by(core: &mut Core<'_>, vertex: u32, next: u32) {
+    core.step(Event::Take { worker: 0, vertex });
+    core.step(Event::Read {
+        worker: 0,
+        vertex: next,
+    });
+    core.step(Event::Raise { worker: 0 });
+}
+
+fn lift_by_each(core: &mut Core<'_>, vertex: u32, successors: &[u32]) {
+    for next in successors {
+        lift_by(core, vertex, *next);
     }
-    for (event, outcome) in TAKEN {
-        holds!(&rt; core.step(event) == outcome);
+}
+
+fn lift_all(rt: &impl Abort, game: &Game, core: &mut Core<'_>) {
+    for vertex in 0..game.vertices() {
+        lift_by_each(core, vertex, game.successors(vertex));
     }
-    holds!(&rt; !core.is_pending(4) && core.is_pending(5));
+    holds!(rt; core.is_quiet() && core.is_settled());
+}
+
+fn is_settled_when_quiet(rt: &(impl Abort + AllocGlobal), game: &Game) {
+    let mut core = new_core(rt, game, 1);
+    lift_all(rt, game, &mut core);
 }
 
 #[test]
 fn a_quiet_core_is_settled(rt: HostRuntime) {
-    let game = game_of_rows(&rt, &STEP_ROWS).expect(&rt, "a game");
-    let mut core = Core::new(rt.alloc(), &game, 1).expect(&rt, "memory");
-    for vertex in 0..game.vertices() {
-        for next in game.successors(vertex) {
-            core.step(Event::Take { worker: 0, vertex });
-            core.step(Event::Read {
-                worker: 0,
-                vertex: *next,
-            });
-            core.step(Event::Raise { worker: 0 });
-        }
-    }
-    holds!(&rt; core.is_quiet() && core.is_settled());
+    let game = game_from(&rt, &STEP_ROWS);
+    is_settled_when_quiet(&rt, &game);
+}
+
+// A worker takes a vertex, reads one of its successors and raises it.
+static LIFTED: [Event; 3] = [
+    Event::Take {
+        worker: 0,
+        vertex: 4,
+    },
+    Event::Read {
+        worker: 0,
+        vertex: 1,
+    },
+    Event::Raise { worker: 0 },
+];
+
+fn is_lifted(rt: &impl Abort, run: &Result<Core<'_>, CoreError>) {
+    let is_so = match run {
+        Ok(core) => core.is_settled() && !core.is_quiet() && !core.is_pending(4),
+        Err(_) => false,
+    };
+    holds!(rt; is_so, "a vertex is lifted");
+}
+
+fn is_run(rt: &(impl Abort + AllocGlobal), game: &Game) {
+    let run = run(rt.alloc(), game, 1, &LIFTED);
+    is_lifted(rt, &run);
 }
 
 #[test]
 fn a_run_is_its_events(rt: HostRuntime) {
-    let game = game_of_rows(&rt, &STEP_ROWS).expect(&rt, "a game");
-    let events = [
-        Event::Take {
-            worker: 0,
-            vertex: 4,
-        },
-        Event::Read {
-            worker: 0,
-            vertex: 1,
-        },
-        Event::Raise { worker: 0 },
-    ];
-    let core = run(rt.alloc(), &game, 1, events.as_slice()).expect(&rt, "memory");
-    holds!(&rt; core.is_settled() && !core.is_quiet() && !core.is_pending(4));
+    let game = game_from(&rt, &STEP_ROWS);
+    is_run(&rt, &game);
 }

@@ -1,10 +1,12 @@
 // What takes no memory. Of two tests that stand side by side, as `x` and `x_and_y`, the first makes something, and the second makes it and uses it:
 // tests/refusals counts how often both request memory, which has to be the same. Where it is `x_with_y` the second may request it 200 times more.
 
-ghost use Rattle.std.specs.Prelude.{◌≡◌, ◌<◌, length};
+ghost use Rattle.std.specs.Prelude.{◌≡◌, ◌<◌, ◌≤◌, length};
+ghost use Rattle.game.specs.Game.{greatest};
 
-use crate::common::holds;
+use crate::common::{game_from, holds, opened, settled};
 use crate::schedules::TWO_STEPS;
+use evidence::evidence::Evidence;
 use evidence::reader::read_evidence;
 use evidence::verdict::{Both, Verdict};
 use evidence::verify::{check_both, verify};
@@ -13,29 +15,29 @@ use game::dual::{dual, greatest_priority};
 use game::graph::Game;
 use game::name::GameName;
 use lts::read_aut;
+use lts::system::Lts;
 use lts::writer::write_aut;
 use measures::settle::{is_settled, settle};
-use measures::table::{PlainTable, opening};
+use measures::table::PlainTable;
 use pgsolver::{read_game, write_game};
-use samples::games::{game_of_rows, shared_arena_of};
+use samples::games::shared_arena_of;
 use samples::readers::Slow;
 use samples::texts::{RING, repeated_text, ring, system_read};
 use std::alloc::Global;
 use std::marker::Brand;
 use std::process::Abort;
+use std::sync::Arc;
 use std::thread::Threads;
 use tables::shard::Shard;
 
 // A table of a game, which is settled or left as it is.
 fn of_table(rt: &(impl Abort + AllocGlobal), settles: bool) {
-    let game = game_of_rows(rt, &TWO_STEPS).expect(rt, "a game");
-    let mut table = opening(rt.alloc(), &game).expect(rt, "memory");
-    if !settles {
-        holds!(rt; !is_settled(&game, &table));
-        return;
+    let game = game_from(rt, &TWO_STEPS);
+    let mut table = opened(rt, &game);
+    if settles {
+        settle(&game, &mut table);
     }
-    settle(&game, &mut table);
-    holds!(rt; is_settled(&game, &table));
+    holds!(rt; is_settled(&game, &table) == settles);
 }
 
 #[test]
@@ -50,8 +52,7 @@ fn a_table_is_made_and_settled(rt: HostRuntime) {
 
 // A shard of every second vertex, which is raised to top at one or left as it is.
 fn of_shard<K: GameName>(
-    rt: &impl Abort,
-    alloc: Global,
+    rt: &(impl Abort + AllocGlobal),
     game: &Game,
     source: &PlainTable,
     raises: bool,
@@ -60,7 +61,19 @@ fn of_shard<K: GameName>(
     requires same { source.now.game ≡ K.game }
     requires vertex { 2 < length source.now.game.vertices }
 {
-    let mut shard = Shard::<K>::new(alloc, game, 0, 2).expect(rt, "memory");
+    let mut shard = Shard::<K>::new(rt.alloc(), game, 0, 2).expect(rt, "memory");
+    rises_or_stays(rt, &mut shard, source, raises);
+}
+
+fn rises_or_stays<K: GameName>(
+    rt: &impl Abort,
+    shard: &mut Shard<K>,
+    source: &PlainTable,
+    raises: bool,
+)
+    requires same { source.now.game ≡ K.game }
+    requires vertex { 2 < length source.now.game.vertices }
+{
     holds!(rt; shard.has(2));
     let top = source.value(2);
     holds!(rt; top.is_top() && !shard.read(2).is_top());
@@ -72,11 +85,10 @@ fn of_shard<K: GameName>(
 
 // The same of a game with its settled table.
 fn of_settled(rt: &(impl Abort + AllocGlobal), raises: bool) {
-    let game = game_of_rows(rt, &TWO_STEPS).expect(rt, "a game");
-    let mut source = opening(rt.alloc(), &game).expect(rt, "memory");
-    settle(&game, &mut source);
+    let game = game_from(rt, &TWO_STEPS);
+    let source = settled(rt, &game);
     holds!(rt; 2 < game.vertices());
-    of_shard::<Brand>(rt, rt.alloc(), &game, &source, raises)
+    of_shard::<Brand>(rt, &game, &source, raises)
 }
 
 #[test]
@@ -98,13 +110,34 @@ const ODD: &str = "evidence odd\n";
 
 // Evidence of both players, which is checked or left as it is.
 fn of_evidence(rt: &(impl Abort + AllocGlobal), checks: bool) {
-    let game = read_game(rt.alloc(), GAME.as_bytes()).expect(rt, "a game");
-    let even = read_evidence(rt.alloc(), EVEN.as_bytes(), &game).expect(rt, "evidence");
-    let odd = read_evidence(rt.alloc(), ODD.as_bytes(), &game).expect(rt, "evidence");
+    let game = game_read(rt, GAME.as_bytes());
+    of_pieces(rt, &game, checks);
+}
+
+fn of_pieces(rt: &(impl Abort + AllocGlobal), game: &Game, checks: bool) {
+    let even = evidence_read(rt, game, EVEN);
+    let odd = evidence_read(rt, game, ODD);
     if checks {
-        holds!(rt; verify(&game, &even) == Verdict::Good);
-        holds!(rt; check_both(&game, &even, &odd) == Both::Yes);
+        are_good(rt, game, &even, &odd);
     }
+}
+
+fn are_good(rt: &impl Abort, game: &Game, even: &Evidence, odd: &Evidence)
+    requires even { even.now.game ≡ game.now }
+    requires odd { odd.now.game ≡ game.now }
+{
+    holds!(rt; verify(game, even) == Verdict::Good);
+    holds!(rt; check_both(game, even, odd) == Both::Yes);
+}
+
+fn game_read(rt: &(impl Abort + AllocGlobal), text: &[u8]) -> Game {
+    read_game(rt.alloc(), text).expect(rt, "a game")
+}
+
+fn evidence_read(rt: &(impl Abort + AllocGlobal), game: &Game, text: &str) -> Evidence
+    ensures { result.game ≡ game.now }
+{
+    read_evidence(rt.alloc(), text.as_bytes(), game).expect(rt, "evidence")
 }
 
 #[test]
@@ -120,16 +153,25 @@ fn evidence_is_made_and_checked(rt: HostRuntime) {
 // A system, a game and evidence, and room for their texts, which are written or not.
 fn of_texts(rt: &(impl Abort + AllocGlobal), writes: bool) {
     let system = system_read(rt.alloc(), RING).expect(rt, "a system");
-    let game = read_game(rt.alloc(), GAME.as_bytes()).expect(rt, "a game");
-    let even = read_evidence(rt.alloc(), EVEN.as_bytes(), &game).expect(rt, "evidence");
+    let game = game_read(rt, GAME.as_bytes());
+    of_system_and_game(rt, &system, &game, writes);
+}
+
+fn of_system_and_game(rt: &(impl Abort + AllocGlobal), system: &Lts, game: &Game, writes: bool) {
+    let even = evidence_read(rt, game, EVEN);
     let mut out = Vec::with_capacity(rt.alloc(), 1_000).expect(rt, "memory");
     if writes {
-        holds!(rt; write_aut(&system, &mut out).is_ok());
-        holds!(rt; write_game(&game, &mut out).is_ok());
-        holds!(rt; write_evidence(&even, &mut out).is_ok());
-        holds!(rt; out.len() == RING.len() + GAME.len() + EVEN.len());
-        holds!(rt; out.starts_with(RING.as_bytes()) && out.ends_with(EVEN.as_bytes()));
+        write_texts(rt, system, game, &even, &mut out);
     }
+}
+
+// They are written one behind another.
+fn write_texts(rt: &impl Abort, system: &Lts, game: &Game, even: &Evidence, out: &mut Vec<u8>) {
+    holds!(rt; write_aut(system, out).is_ok());
+    holds!(rt; write_game(game, out).is_ok());
+    holds!(rt; write_evidence(even, out).is_ok());
+    holds!(rt; out.len() == RING.len() + GAME.len() + EVEN.len());
+    holds!(rt; out.starts_with(RING.as_bytes()) && out.ends_with(EVEN.as_bytes()));
 }
 
 #[test]
@@ -154,9 +196,18 @@ const AT_ONCE: usize = 1_000_000;
 
 // A text with many blanks and one without, of which one is read, some bytes at a time.
 fn of_system(rt: &(impl Abort + AllocGlobal), has_blanks: bool, step: usize) {
-    let blanks = repeated_text(rt.alloc(), HEADER, " ", BLANKS, LINE).expect(rt, "memory");
-    let none = repeated_text(rt.alloc(), HEADER, " ", 0, LINE).expect(rt, "memory");
+    let blanks = blank_text(rt, BLANKS);
+    let none = blank_text(rt, 0);
     let text = if has_blanks { &blanks } else { &none };
+    is_read(rt, text.as_str(), step)
+}
+
+// The text with so many blanks.
+fn blank_text(rt: &(impl Abort + AllocGlobal), blanks: usize) -> String {
+    repeated_text(rt.alloc(), HEADER, " ", blanks, LINE).expect(rt, "memory")
+}
+
+fn is_read(rt: &(impl Abort + AllocGlobal), text: &str, step: usize) {
     let reader = Slow {
         left: text.as_bytes(),
         step,
@@ -188,17 +239,31 @@ fn a_system_is_read_and_has_many_blanks_in_pieces(rt: HostRuntime) {
 
 // The text of a game of 25,002 vertices, which is read; and its dual, or not.
 fn of_game(rt: &(impl Abort + AllocGlobal + Threads + Sync), has_dual: bool) {
-    let system = ring(rt.alloc(), 2500).expect(rt, "memory");
-    let formula = "[true*]<true*>(<a>true)";
-    let arena = shared_arena_of(rt, system.as_str(), formula).expect(rt, "a game");
-    let mut text = Vec::new(rt.alloc());
-    holds!(rt; write_game(&arena, &mut text).is_ok());
-    let game = read_game(rt.alloc(), text.as_slice()).expect(rt, "a game");
+    let arena = long_arena(rt);
+    let text = game_text(rt, &arena);
+    let game = game_read(rt, text.as_slice());
     holds!(rt; game.vertices() == 25_002 && greatest_priority(&game) <= 31);
     if has_dual {
-        let dual = dual(rt.alloc(), &game).expect(rt, "memory");
-        holds!(rt; dual.vertices() == 25_002);
+        dual_is_made(rt, &game);
     }
+}
+
+fn long_arena(rt: &(impl Abort + AllocGlobal + Threads + Sync)) -> Arc<Game, Global> {
+    let system = ring(rt.alloc(), 2500).expect(rt, "memory");
+    shared_arena_of(rt, system.as_str(), "[true*]<true*>(<a>true)").expect(rt, "a game")
+}
+
+fn game_text(rt: &(impl Abort + AllocGlobal), game: &Game) -> Vec<u8> {
+    let mut text = Vec::new(rt.alloc());
+    holds!(rt; write_game(game, &mut text).is_ok());
+    text
+}
+
+fn dual_is_made(rt: &(impl Abort + AllocGlobal), game: &Game)
+    requires { greatest game.now ≤ 31 }
+{
+    let dual = dual(rt.alloc(), game).expect(rt, "memory");
+    holds!(rt; dual.vertices() == 25_002);
 }
 
 #[test]

@@ -33,26 +33,34 @@ fn left_game(
 fn all_end_well_over_shards<
     R: Abort + AllocGlobal + Threads + Wait + Clone + Copy + Drop + Send + Sync,
 >(rt: &R, game: &Arc<Game, Global>) {
-    for workers in [1, 2, 8] {
-        assert!(rt; end_well_over_shards(rt, game, workers), "{workers}");
-    }
+    holds!(rt; end_well_over_shards(rt, game, 1));
+    holds!(rt; end_well_over_shards(rt, game, 2));
+    holds!(rt; end_well_over_shards(rt, game, 8));
 }
 
 fn all_end_well_over_words<R: Abort + AllocGlobal + Threads + Wait + Sync>(
     rt: &R,
     game: &Arc<Game, Global>,
 ) {
-    for workers in [1, 2, 8] {
-        assert!(rt; end_well_over_words(rt, game, workers), "{workers}");
-    }
+    holds!(rt; end_well_over_words(rt, game, 1));
+    holds!(rt; end_well_over_words(rt, game, 2));
+    holds!(rt; end_well_over_words(rt, game, 8));
+}
+
+fn all_end_well<R: Abort + AllocGlobal + Threads + Wait + Clone + Copy + Drop + Send + Sync>(
+    rt: &R,
+    system: &str,
+    formula: &str,
+) {
+    let game = left_game(rt, system, formula);
+    all_end_well_over_shards(rt, &game);
+    all_end_well_over_words(rt, &game);
 }
 
 #[test]
 fn workers_settle_fixpoints_that_depend_on_each_other(rt: HostRuntime) {
     for (system, formula) in &NESTED {
-        let game = left_game(&rt, system, formula);
-        all_end_well_over_shards(&rt, &game);
-        all_end_well_over_words(&rt, &game);
+        all_end_well(&rt, system, formula);
     }
 }
 

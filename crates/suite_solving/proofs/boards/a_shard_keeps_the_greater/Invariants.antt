@@ -1,4 +1,4 @@
 use Rattle.suite_solving.proofs.boards.a_shard_keeps_the_greater.Given as goal
 
-abbrev pub ghosts-keeps_the_greater : goal.ghosts-keeps_the_greater
-ghosts-keeps_the_greater g a = record { game = a.game.now }
+abbrev pub ghosts-is_kept : goal.ghosts-is_kept
+ghosts-is_kept g a = record { game = a.game.now }
