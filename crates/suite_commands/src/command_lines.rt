@@ -1,6 +1,6 @@
 // Command lines, and what is asked for by them.
 
-use crate::common::{holds, repeats, same};
+use crate::common::{holds, same};
 use crate::help::HELP;
 use command_line::information::{explanation, help_text, version_text};
 use command_line::line::command;
@@ -15,17 +15,12 @@ use std::alloc::{AllocError, Global};
 use std::process::Abort;
 
 /// The words of a command line.
-fn words(rt: &(impl Abort + AllocGlobal), line: &str) -> Vec<String> {
-    let mut words = Vec::new(rt.alloc());
+fn words(alloc: Global, line: &str) -> Result<Vec<String>, AllocError> {
+    let mut words = Vec::new(alloc);
     for word in line.split(' ') {
-        holds(rt, line, push_word(&mut words, rt.alloc(), word).is_ok());
+        words.push(String::from_str(alloc, word)?)?;
     }
-    words
-}
-
-fn push_word(words: &mut Vec<String>, alloc: Global, word: &str) -> Result<(), AllocError> {
-    words.push(String::from_str(alloc, word)?)?;
-    Ok(())
+    Ok(words)
 }
 
 /// Adds words to a text, each behind a space but the first.
@@ -108,15 +103,11 @@ fn add_files(text: &mut String, files: &[&str]) -> Result<(), AllocError> {
     Ok(())
 }
 
-fn add_output(text: &mut String, output: Option<&str>) -> Result<(), AllocError> {
-    add(text, &[output.unwrap_or("-")])
-}
-
 /// Adds where a check's texts go, or a line where they go nowhere.
 fn add_outputs(text: &mut String, outputs: &Outputs<'_>) -> Result<(), AllocError> {
-    add_output(text, outputs.game)?;
-    add_output(text, outputs.evidence)?;
-    add_output(text, outputs.witness)?;
+    for output in [outputs.game, outputs.evidence, outputs.witness] {
+        add(text, &[output.unwrap_or("-")])?;
+    }
     add_form(text, outputs.report)
 }
 
@@ -211,9 +202,9 @@ fn request_of(alloc: Global, words: &[String]) -> Result<String, AllocError> {
 }
 
 /// What a line asks for, or why it is refused.
-fn line_asked(rt: &(impl Abort + AllocGlobal), line: &str) -> String {
-    let words = words(rt, line);
-    request_of(rt.alloc(), words.as_slice()).expect(rt, "memory")
+fn line_asked(alloc: Global, line: &str) -> Result<String, AllocError> {
+    let words = words(alloc, line)?;
+    request_of(alloc, words.as_slice())
 }
 
 /// Checks and what they ask for, with the defaults of the program's description: how they solve, and what they write beside the report.
@@ -406,7 +397,7 @@ static OTHERS: [(&str, &str); 28] = [
 ];
 
 fn takes(rt: &(impl Abort + AllocGlobal), line: &str, wanted: &str) {
-    let asked = line_asked(rt, line);
+    let asked = line_asked(rt.alloc(), line).expect(rt, "memory");
     same(rt, line, asked.as_str(), wanted);
 }
 
@@ -517,10 +508,10 @@ static REFUSED: [&str; 86] = [
     "mucheck other",
 ];
 
-/// The words of a line are no command.
-fn is_refused(rt: &(impl Abort + AllocGlobal), line: &str) {
-    let words = words(rt, line);
-    holds(rt, line, is_no_command(rt.alloc(), words.as_slice()));
+/// Whether the words of a line are no command.
+fn is_refused(alloc: Global, line: &str) -> Result<bool, AllocError> {
+    let words = words(alloc, line)?;
+    Ok(is_no_command(alloc, words.as_slice()))
 }
 
 fn is_no_command(alloc: Global, words: &[String]) -> bool {
@@ -530,7 +521,7 @@ fn is_no_command(alloc: Global, words: &[String]) -> bool {
 #[test]
 fn refuses_command_lines(rt: HostRuntime) {
     for line in &REFUSED {
-        is_refused(&rt, line);
+        holds(&rt, line, matches!(is_refused(rt.alloc(), line), Ok(true)));
     }
 }
 
@@ -596,8 +587,12 @@ static DESTRUCTIVE: [(&str, &str); 14] = [
 
 /// What is written of a line that asks for help, or is refused.
 fn told(rt: &(impl Abort + AllocGlobal), line: &str) -> String {
-    let words = words(rt, line);
-    help(rt.alloc(), words.as_slice()).expect(rt, "memory")
+    line_told(rt.alloc(), line).expect(rt, "memory")
+}
+
+fn line_told(alloc: Global, line: &str) -> Result<String, AllocError> {
+    let words = words(alloc, line)?;
+    help(alloc, words.as_slice())
 }
 
 /// This is written of a line that asks for help, or is refused.
@@ -608,7 +603,7 @@ fn tells(rt: &(impl Abort + AllocGlobal), line: &str, wanted: &str) {
 
 /// This is written of a line behind the word that it is an error.
 fn tells_error(rt: &(impl Abort + AllocGlobal), line: &str, wanted: &str) {
-    let wanted = repeats(rt, "error: ", (wanted, 1), "\n");
+    let wanted = format!(in rt.alloc(); "error: {wanted}\n").expect(rt, "memory");
     tells(rt, line, wanted.as_str());
 }
 
@@ -659,14 +654,7 @@ fn codes_are_explained(rt: HostRuntime) {
         "A3 at line 1: more than 10,000,000 transitions or 1,000,000 states are announced\n\
         What to do: reduce the system first, for example by branching bisimulation\n",
     );
-}
-
-/// Words that are no code.
-static NO_CODES: [&str; 6] = ["", "A", "A0", "A33", "a3", "T3"];
-
-#[test]
-fn what_is_no_code_is_refused(rt: HostRuntime) {
-    for code in &NO_CODES {
+    for code in &["", "A", "A0", "A33", "a3", "T3"] {
         holds(&rt, code, is_no_code(rt.alloc(), code));
     }
 }
@@ -678,7 +666,7 @@ fn help_of(rt: &(impl Abort + AllocGlobal), command: Option<&str>) -> String {
 
 /// What help tells of a command is what its option shows.
 fn helps(rt: &(impl Abort + AllocGlobal), command: &str) {
-    let line = repeats(rt, "mucheck ", (command, 1), " --help");
+    let line = format!(in rt.alloc(); "mucheck {command} --help").expect(rt, "memory");
     let wanted = help_of(rt, Some(command));
     tells(rt, line.as_str(), wanted.as_str());
 }
@@ -699,21 +687,15 @@ fn is_version(rt: &(impl Abort + AllocGlobal), wanted: &str) {
     same(rt, "version", text.as_str(), wanted);
 }
 
-static COMMANDS: [&str; 10] = [
-    "check", "why", "table", "normal", "solve", "verify", "replay", "explain", "help", "version",
-];
-
-/// What is told of the help of a command is what its option shows.
-#[test]
-fn texts_of_commands_are_those_of_their_options(rt: HostRuntime) {
-    for command in &COMMANDS {
-        helps(&rt, command);
-    }
-}
-
 /// What is told of help and version is what their options show.
 #[test]
 fn texts_are_those_of_the_options(rt: HostRuntime) {
+    for command in &[
+        "check", "why", "table", "normal", "solve", "verify", "replay", "explain", "help",
+        "version",
+    ] {
+        helps(&rt, command);
+    }
     helps_with(&rt, HELP);
     is_version(&rt, TOLD_VERSION);
     holds(&rt, "no such command", is_no_topic(rt.alloc(), "other"));
@@ -786,15 +768,10 @@ fn shows(rt: &impl Abort, text: &str, parts: &[&str]) {
     }
 }
 
-fn shows_parts(rt: &(impl Abort + AllocGlobal), line: &str, parts: &[&str; 4]) {
-    let text = told(rt, line);
-    shows(rt, text.as_str(), parts.as_slice());
-}
-
 #[test]
 fn help_shows_what_is_served(rt: HostRuntime) {
     for (line, parts) in &SHOWN {
-        shows_parts(&rt, line, parts);
+        shows(&rt, told(&rt, line).as_str(), parts.as_slice());
     }
 }
 

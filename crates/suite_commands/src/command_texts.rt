@@ -1,6 +1,6 @@
 // What the commands `normal`, `solve` and `verify` write, answer and refuse: the worked examples of docs/FORMATS.md, and games that were solved by hand.
 
-use crate::common::{answers, cramped, holds, is_cut, is_written, ready, repeats};
+use crate::common::{answers, cramped, holds, is_cut, is_written, ready};
 use commands::normal_text::{normal_asked, normal_text};
 use commands::solve_text::solve_text;
 use commands::verify_text::{verify_both_text, verify_text};
@@ -12,6 +12,7 @@ use forms::priorities::Priorities;
 use requests::error::MuError;
 use requests::request::{BoardKind, Normalize, Options};
 use samples::readers::Slow;
+use samples::texts::repeated_text;
 use samples::writers::{AMPLE, Narrow};
 use std::alloc::{AllocError, Global};
 use std::io::Write;
@@ -238,24 +239,24 @@ fn nests_too_deep<H: Abort + Threads + Wait + AllocGlobal + Clone + Copy + Drop 
     tells(rt, &Asked::Normal(binders, Priorities::Nested), "", "N2");
 }
 
+/// The head, then the part this often, then the tail.
+fn repeats(rt: &(impl Abort + AllocGlobal), head: &str, part: (&str, usize), tail: &str) -> String {
+    repeated_text(rt.alloc(), head, part.0, part.1, tail).expect(rt, "memory")
+}
+
 #[test]
 fn normal_forms_by_either_rule(rt: HostRuntime) {
     for (formula, nested, dependent) in &FIRST_LINES {
         begin_with(&rt, formula, nested, dependent);
     }
-}
-
-#[test]
-fn normal_forms_that_nest_too_deep_are_refused(rt: HostRuntime) {
-    let binders = repeats(&rt, "", ("nu X. mu X. ", 16), "true");
-    nests_too_deep(&rt, binders.as_str());
-}
-
-#[test]
-fn normal_forms_that_are_too_large_are_refused(rt: HostRuntime) {
+    nests_too_deep(&rt, repeats(&rt, "", ("nu X. mu X. ", 16), "true").as_str());
     let large = repeats(&rt, "<c><c><c><c><", ("(a+b).", 9), "(a+b)>true");
-    let asked = Asked::Normal(large.as_str(), Priorities::Nested);
-    tells(&rt, &asked, "", "N1")
+    tells(
+        &rt,
+        &Asked::Normal(large.as_str(), Priorities::Nested),
+        "",
+        "N1",
+    )
 }
 
 /// The text with another line in the place of one, or without it.
@@ -263,19 +264,12 @@ fn with_line(alloc: Global, text: &str, line: &str, other: &str) -> Result<Strin
     let mut changed = String::new(alloc);
     for old in text.lines() {
         let new = if old == line { other } else { old };
-        push_line(&mut changed, new)?;
+        if !new.is_empty() {
+            changed.push_str(new)?;
+            changed.push_str("\n")?;
+        }
     }
     Ok(changed)
-}
-
-/// Adds a line, but not an empty one.
-fn push_line(text: &mut String, line: &str) -> Result<(), AllocError> {
-    if line.is_empty() {
-        return Ok(());
-    }
-    text.push_str(line)?;
-    text.push_str("\n")?;
-    Ok(())
 }
 
 /// A line of Even's evidence, what stands in its place, and what is told of it then.
@@ -313,35 +307,27 @@ fn tells_of_both<H: Abort + Threads + Wait + AllocGlobal + Clone + Copy + Drop +
     tells(rt, &Asked::Both(OFTEN_A, first, second), text, "no");
 }
 
-/// This is told where the one line stands in the place of the other.
-fn tells_of_changed<H: Abort + Threads + Wait + AllocGlobal + Clone + Copy + Drop + Send + Sync>(
-    rt: &H,
-    lines: (&str, &str),
-    text: &str,
-    answer: &str,
-) {
-    let changed = changed_even(rt, lines.0, lines.1);
-    tells(rt, &Asked::Verify(OFTEN_A, changed.as_str()), text, answer);
-}
-
 #[test]
 fn changed_evidence_is_refused(rt: HostRuntime) {
     for (line, other, text, answer) in &CHANGED {
-        tells_of_changed(&rt, (line, other), text, answer);
+        let changed = changed_even(&rt, line, other);
+        tells(&rt, &Asked::Verify(OFTEN_A, changed.as_str()), text, answer);
     }
-}
-
-#[test]
-fn evidence_without_an_entry_is_refused(rt: HostRuntime) {
-    let (even, odd) = (EVEN_OF_OFTEN_A, odd_without(&rt, "1 - (0,0)"));
-    tells_of_both(&rt, even, odd.as_str(), "refused second C2 at 7\n");
-    tells_of_both(&rt, odd.as_str(), even, "refused first C2 at 7\n");
-}
-
-#[test]
-fn evidence_that_leaves_a_vertex_is_refused(rt: HostRuntime) {
-    let odd = odd_without(&rt, "7 - (0,1)");
-    tells_of_both(&rt, EVEN_OF_OFTEN_A, odd.as_str(), "refused C5 at 7\n")
+    let gone = odd_without(&rt, "1 - (0,0)");
+    tells_of_both(
+        &rt,
+        EVEN_OF_OFTEN_A,
+        gone.as_str(),
+        "refused second C2 at 7\n",
+    );
+    tells_of_both(
+        &rt,
+        gone.as_str(),
+        EVEN_OF_OFTEN_A,
+        "refused first C2 at 7\n",
+    );
+    let left = odd_without(&rt, "7 - (0,1)");
+    tells_of_both(&rt, EVEN_OF_OFTEN_A, left.as_str(), "refused C5 at 7\n")
 }
 
 /// Commands whose texts are refused, the game's before the first evidence and that before the second.
@@ -402,14 +388,9 @@ fn loops_game(rt: &(impl Abort + AllocGlobal), last: u8) -> String {
     loops(rt.alloc(), last).expect(rt, "memory")
 }
 
-/// What is written of it where Odd wins them all.
-fn odd_winners(rt: &(impl Abort + AllocGlobal), vertices: u32) -> String {
-    all_odd(rt.alloc(), vertices).expect(rt, "memory")
-}
-
 #[test]
 fn odd_wins_loops_of_odd_priorities(rt: HostRuntime) {
-    let wanted = odd_winners(&rt, 227);
+    let wanted = all_odd(rt.alloc(), 227).expect(&rt, "memory");
     let game = loops_game(&rt, 2);
     tells(&rt, &Asked::Solve(game.as_str()), wanted.as_str(), "yes")
 }
@@ -438,11 +419,6 @@ fn options_of(crew: (u32, u32, BoardKind)) -> Option<Options> {
     })
 }
 
-/// The same, and there are some.
-fn crew_options(rt: &impl Abort, crew: (u32, u32, BoardKind)) -> Options {
-    options_of(crew).expect(rt, "options")
-}
-
 /// All commands by these workers over this board.
 fn tell_all<H: Abort + Threads + Wait + AllocGlobal + Clone + Copy + Drop + Send + Sync>(
     rt: &H,
@@ -469,23 +445,14 @@ fn writes_first<H: Abort + Threads + Wait + AllocGlobal + Clone + Copy + Drop + 
     );
 }
 
-/// All commands by this crew, which solves a game that Odd wins beside.
-fn tell_by<H: Abort + Threads + Wait + AllocGlobal + Clone + Copy + Drop + Send + Sync>(
-    rt: &H,
-    crew: (u32, u32, BoardKind),
-    game: &str,
-) {
-    let options = crew_options(rt, crew);
-    tell_all(rt, &options);
-    let solve = Asked::Solve(game);
-    writes_first(rt, &solve, &options, "vertices 227\neven 0\n0 odd\n");
-}
-
 #[test]
 fn any_workers_over_any_board_tell_the_same(rt: HostRuntime) {
     let game = loops_game(&rt, 2);
     for crew in &CREWS {
-        tell_by(&rt, *crew, game.as_str());
+        let options = options_of(*crew).expect(&rt, "options");
+        tell_all(&rt, &options);
+        let solve = Asked::Solve(game.as_str());
+        writes_first(&rt, &solve, &options, "vertices 227\neven 0\n0 odd\n");
     }
 }
 
@@ -495,9 +462,9 @@ fn is_too_great<H: Abort + Threads + Wait + AllocGlobal + Clone + Copy + Drop + 
     asked: &Asked<'_>,
     workers: u32,
 ) {
-    let packed = crew_options(rt, (workers, 16, BoardKind::Packed));
+    let packed = options_of((workers, 16, BoardKind::Packed)).expect(rt, "options");
     tells_with(rt, asked, &packed, ("", "T1"));
-    let auto = crew_options(rt, (workers, 16, BoardKind::Auto));
+    let auto = options_of((workers, 16, BoardKind::Auto)).expect(rt, "options");
     writes_first(rt, asked, &auto, "");
 }
 
@@ -505,9 +472,9 @@ fn is_too_great<H: Abort + Threads + Wait + AllocGlobal + Clone + Copy + Drop + 
 #[test]
 fn ranks_too_great_for_the_packed_board_are_told(rt: HostRuntime) {
     let game = loops_game(&rt, 3);
-    let asked = Asked::Solve(game.as_str());
-    is_too_great(&rt, &asked, 1);
-    is_too_great(&rt, &asked, 2);
+    for workers in [1, 2] {
+        is_too_great(&rt, &Asked::Solve(game.as_str()), workers);
+    }
 }
 
 /// A reader of a beginning of the text that fails behind it.

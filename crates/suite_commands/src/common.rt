@@ -2,7 +2,6 @@
 
 use fixtures::answers::answer_text;
 use requests::error::MuError;
-use samples::texts::repeated_text;
 use samples::writers::{AtEnd, Narrow};
 use std::alloc::Global;
 use std::process::Abort;
@@ -15,16 +14,6 @@ pub(crate) fn same(rt: &impl Abort, text: &str, found: &str, wanted: &str) {
 /// This holds of what the text names.
 pub(crate) fn holds(rt: &impl Abort, text: &str, is_so: bool) {
     assert!(rt; is_so, "{text}");
-}
-
-/// The head, then the part this often, then the tail.
-pub(crate) fn repeats(
-    rt: &(impl Abort + AllocGlobal),
-    head: &str,
-    part: (&str, usize),
-    tail: &str,
-) -> String {
-    repeated_text(rt.alloc(), head, part.0, part.1, tail).expect(rt, "memory")
 }
 
 /// The answer about a text is this, or the code of the refusal and its place.
