@@ -174,6 +174,17 @@ impl Field {
         count
     }
 
+    /// How many successors of this class a vertex has.
+    pub(crate) fn of_class(&self, game: &Game, v: u32, class: u32) -> u32 {
+        let mut count: u32 = 0;
+        for t in successors(game, v) {
+            if self.classes.get(*t) == class {
+                count = count.saturating_add(1);
+            }
+        }
+        count
+    }
+
     /// A successor by which the owner wins: one of this number, or the vertex itself where staying wins.
     pub(crate) fn winning(&self, game: &Game, v: u32, id: u32) -> u32 {
         let stays = (priority(game, v) % 2 == 1) == is_odds(game, v);

@@ -1,8 +1,6 @@
 // What Odd can force where Even wins, with reasons.
 
 use crate::effort::Effort;
-use crate::judging::Judging;
-use crate::layering::Layering;
 use crate::lost::Lost;
 use crate::numbers::Numbers;
 use crate::ranks::Ranks;
@@ -26,12 +24,6 @@ pub struct Layers {
     counts: Numbers,
     moves: Numbers,
     ranks: Ranks,
-}
-
-fn rounds_of<'p>(stock: &mut Stock, game: &Game, winners: Winners<'p>, odd: u8) -> Rounds<'p> {
-    let layering = Layering::new(stock, game, winners, odd);
-    let judging = Judging::new(stock, game, layering);
-    Rounds::new(stock, judging)
 }
 
 impl Layers {
@@ -74,7 +66,7 @@ impl Layers {
         let mut stock = Stock::new(alloc);
         let (effort, moves) = (self.effort, self.moves);
         let winners = Winners::of(&mut stock, game, predecessors, effort, moves, self.classes);
-        let rounds = rounds_of(&mut stock, game, winners, odd);
+        let rounds = Rounds::new(&mut stock, game, winners, odd);
         let layers = Layers::found(&mut stock, game, effort, odd, rounds);
         if stock.is_whole() {
             Ok(layers)

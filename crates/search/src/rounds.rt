@@ -1,11 +1,14 @@
 // Rounds: it is counted and judged in turn, until Even does nowhere better.
 
 use crate::edges::{is_odds, priority, successors};
+use crate::field::Field;
 use crate::judging::Judging;
+use crate::layering::Layering;
 use crate::numbers::{Numbers, Span};
 use crate::rooms::Stay;
 use crate::stock::Stock;
 use crate::ways::Ways;
+use crate::winners::Winners;
 use game::graph::Game;
 
 /// What came of a round.
@@ -24,7 +27,9 @@ enum Found {
 /// The rounds of an odd priority.
 #[derive(Drop)]
 pub(crate) struct Rounds<'p> {
-    judging: Judging<'p>,
+    winners: Winners<'p>,
+    layering: Layering,
+    judging: Judging,
     // The moves with which it was begun.
     moves: Numbers,
 }
@@ -38,9 +43,14 @@ pub(crate) struct Counted {
 }
 
 impl<'p> Rounds<'p> {
-    pub(crate) fn new(stock: &mut Stock, judging: Judging<'p>) -> Self {
-        let moves = Numbers::copied(stock, &judging.layering.winners.field.moves);
-        Rounds { judging, moves }
+    pub(crate) fn new(stock: &mut Stock, game: &Game, winners: Winners<'p>, odd: u8) -> Self {
+        let moves = Numbers::copied(stock, &winners.field.moves);
+        Rounds {
+            winners,
+            layering: Layering::new(stock, game, odd),
+            judging: Judging::new(stock, game),
+            moves,
+        }
     }
 
     /// Counts what Odd can force, as far as a budget goes. The answer is whether it was found.
@@ -50,81 +60,95 @@ impl<'p> Rounds<'p> {
                 Found::All => return true,
                 Found::Nothing => return false,
                 Found::Better => {}
-                Found::Astray => self.take_back(),
+                Found::Astray => self.winners.take_back(&self.moves),
             }
         }
         false
-    }
-
-    fn take_back(&mut self) {
-        let field = &mut self.judging.layering.winners.field;
-        field.moves.copy(&self.moves);
     }
 
     // The first round is cheap, and moves Even greedily; the others begin with moves that win.
     fn go_round(&mut self, game: &Game, round: u32) -> Found {
         let stay = match round {
             0 => Stay::Nowhere,
-            1 if self.judging.layering.odd == 1 => Stay::Anywhere,
+            1 if self.layering.odd == 1 => Stay::Anywhere,
             _ => Stay::ByMoves,
         };
-        if !self.judging.layering.count(game, stay) {
-            return if round < 2 {
-                Found::Astray
-            } else {
-                Found::Nothing
-            };
+        if self.layering.count(&mut self.winners, game, stay) {
+            self.judge(game, round)
+        } else if round < 2 {
+            Found::Astray
+        } else {
+            Found::Nothing
         }
-        match self.judging.judge(game) {
+    }
+
+    // What comes of a round in which all was counted.
+    fn judge(&mut self, game: &Game, round: u32) -> Found {
+        let better = self.judging.judge(&mut self.winners, &self.layering, game);
+        match better {
             Some(0) => Found::All,
             None => Found::Nothing,
-            Some(_) if self.judging.layering.winners.is_spent() => Found::Nothing,
+            Some(_) if self.winners.is_spent() => Found::Nothing,
             Some(_) if round == 0 => Found::Astray,
             Some(_) => Found::Better,
         }
     }
 
     /// What was found, with Odd's moves at the vertices of the odd priority.
-    pub(crate) fn into_counted(mut self, game: &Game) -> Counted {
-        let span = self.gather(game);
-        self.move_on(game, span);
-        let layering = self.judging.layering;
-        let winners = layering.winners;
-        let attractors = winners.attractors;
+    pub(crate) fn into_counted(self, game: &Game) -> Counted {
+        let Rounds {
+            winners,
+            layering,
+            ..
+        } = self;
+        let Winners {
+            mut field,
+            attractors,
+            components,
+            ..
+        } = winners;
+        let keys = attractors.keys;
+        let span = field.gather_counted(&layering.counts, game.vertices());
+        field.move_on(game, &keys, span, layering.odd);
         Counted {
             ways: Ways {
                 span,
-                field: winners.field,
-                components: winners.components,
+                field,
+                components,
                 counts: attractors.left,
             },
             counts: layering.counts,
-            keys: attractors.keys,
+            keys,
         }
     }
+}
 
-    fn gather(&mut self, game: &Game) -> Span {
+impl Winners<'_> {
+    // Takes back all moves since these.
+    fn take_back(&mut self, moves: &Numbers) {
+        self.field.moves.copy(moves);
+    }
+}
+
+impl Field {
+    // Lists the vertices whose counts are above zero.
+    fn gather_counted(&mut self, counts: &Numbers, vertices: u32) -> Span {
         let mut span = Span { from: 0, to: 0 };
-        let layering = &mut self.judging.layering;
-        let list = &mut layering.winners.field.list;
-        for v in 0..game.vertices() {
-            if layering.counts.get(v) > 0 {
-                list.set(span.to, v);
+        for v in 0..vertices {
+            if counts.get(v) > 0 {
+                self.list.set(span.to, v);
                 span.to = span.to.saturating_add(1);
             }
         }
         span
     }
 
-    fn move_on(&mut self, game: &Game, span: Span) {
-        let odd = self.judging.layering.odd;
-        let winners = &mut self.judging.layering.winners;
-        let keys = &winners.attractors.keys;
-        let field = &mut winners.field;
+    // Odd goes on to the greatest keys from vertices of the odd priority.
+    fn move_on(&mut self, game: &Game, keys: &Numbers, span: Span, odd: u8) {
         for place in span.from..span.to {
-            let v = field.list.get(place);
+            let v = self.list.get(place);
             if is_odds(game, v) && priority(game, v) == odd {
-                field.moves.set(v, greatest(game, keys, v));
+                self.moves.set(v, greatest(game, keys, v));
             }
         }
     }

@@ -129,6 +129,11 @@ impl<'p> Winners<'p> {
         self.attractors.queue.push(v);
     }
 
+    /// Whether a vertex falls to the player that wins a successor of it.
+    pub(crate) fn falls(&mut self, game: &Game, u: u32, v: u32, odd: bool) -> bool {
+        self.attractors.falls(game, &mut self.field, u, v, odd)
+    }
+
     /// Decides what the vertices in the queue decide of a part. The answer is what is left.
     pub(crate) fn spread(&mut self, game: &Game, span: Span, id: u32, won: Won) -> Span {
         self.attractors.spread(game, &mut self.field, id, won);
