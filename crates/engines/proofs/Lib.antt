@@ -1,9 +1,7 @@
-mod Lines
 mod Checks
 mod Orders
 mod Lendings
 mod Winning
 mod Putting
-mod Telling
 mod Reasoning
 mod Caused

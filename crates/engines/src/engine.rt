@@ -14,9 +14,9 @@ ghost use Rattle.requests.specs.Writers.{all_writers, evidence_writers, game_wri
 use crate::no_writer::NoWriter;
 use crate::outputs::{answer, put_wanted};
 use crate::prepared::{Prepared, prepare};
-use crate::report::report_text;
 use lts::put;
 use measures::observer::{Observer, Silent, Stage};
+use reports::report::report_text;
 use requests::error::MuError;
 use requests::request::{Check, Options, ReportForm, Wanted};
 use requests::texts::{Texts, read_asked, read_both};

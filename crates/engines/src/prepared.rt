@@ -8,7 +8,6 @@ ghost use Rattle.engines.specs.Prepared.{ArePrepared, AreShown, IsPlayShown, IsU
 ghost use Rattle.verdicts.specs.Findings.{AreFindings, AreOddsOf, IsPairOf, formula_found, system_of};
 ghost use Rattle.requests.specs.Report.{report_in};
 
-use crate::report::report_text;
 use certify::pair::EvidencePair;
 use evidence::error::EvidenceError;
 use evidence::evidence::Evidence;
@@ -18,6 +17,7 @@ use laws::chosen_is_admissible;
 use laws::games::one_wins;
 use lts::{Memory, Transition};
 use normal::make::normal_with;
+use reports::report::report_text;
 use requests::error::MuError;
 use requests::request::{ReportForm, Wanted, WitnessForm};
 use std::alloc::Global;

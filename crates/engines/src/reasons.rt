@@ -15,11 +15,11 @@ ghost use Rattle.engines.specs.StrictReasons.{TellsWhyBy};
 
 use crate::outputs::answer;
 use crate::prepared::play_of;
-use crate::report::{write_formula_line, write_initial_line};
 use forms::form::Normal;
 use lts::{Memory, WriteFault};
 use measures::observer::{Observer, Stage};
 use normal::make::normal_with;
+use reports::report::{write_formula_line, write_initial_line};
 use requests::error::MuError;
 use requests::request::{Options, Why};
 use requests::texts::{Texts, read_asked};

@@ -8,13 +8,13 @@ use console::stats::Stats;
 use engines::error::MuError;
 use engines::request::Table;
 use engines::status::error_status;
-use engines::table::table_line_seen;
 use lts::reader::read_aut;
 use lts::system::Lts;
 use measures::observer::{Observer, Stage};
 use std::sync::Wait;
 use std::thread::Threads;
 use std::time::Clock;
+use table_lines::table::table_line_seen;
 
 /// The status of a line whose formula is at fault.
 const AT_FAULT: u8 = 2;

@@ -22,7 +22,7 @@ mod statuses;
 #[cfg(test)]
 mod strict_checks;
 #[cfg(test)]
-mod table_lines;
+mod table_answers;
 #[cfg(test)]
 mod told_reasons;
 #[cfg(test)]

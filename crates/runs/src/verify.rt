@@ -1,0 +1,21 @@
+// The command `verify`.
+
+use commands::verify_text::{verify_both_text, verify_text};
+use console::input::open;
+use console::refusal::Refusal;
+use requests::request::Verify;
+use std::io;
+
+/// All files are opened, in the order of the command line, before the first is read.
+pub fn run_verify(rt: &HostRuntime, request: &Verify<'_>) -> Result<bool, Refusal> {
+    let game = open(rt, request.game)?;
+    let evidence = open(rt, request.evidence)?;
+    let out = &mut io::writer(rt);
+    match request.other {
+        None => Ok(verify_text(rt.alloc(), game, evidence, out)?),
+        Some(other) => {
+            let other = open(rt, other)?;
+            Ok(verify_both_text(rt.alloc(), game, evidence, other, out)?)
+        }
+    }
+}

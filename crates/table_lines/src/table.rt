@@ -1,0 +1,377 @@
+// A table: the answers of one system to many formulas, a line for each.
+
+ghost use Rattle.std.specs.Prelude.{◌≡◌, ℕ, List, take, length, count_by, slice_index_or, false, Some, IfErr, IfOk, MatchResult, if◌then◌else◌};
+ghost use Rattle.calculus.specs.Closed.{closed_formula};
+ghost use Rattle.text.specs.Cause.{HasCause};
+ghost use Rattle.text.specs.Wrote.{Wrote};
+ghost use Rattle.requests.specs.declared.error.MuError.TheVariants as error;
+ghost use Rattle.requests.specs.declared.texts.TheConstants.{FORMULA_BYTES};
+ghost use Rattle.table_lines.specs.Found.{IsFound};
+ghost use Rattle.reports.specs.Status.{error_status as status_of_error};
+ghost use Rattle.requests.specs.Check.{AreMarks, IsBeyond};
+ghost use Rattle.requests.specs.Known.{AreKnown};
+ghost use Rattle.requests.specs.Texts.{IsFormulaOf};
+ghost use Rattle.table_lines.specs.Table.{IsRefused, TellsLine, answer_line, code_of, fault_code, is_as_expected, name_end, place_of, refusal_line, remark, way_by};
+
+use crate::expectation::expectation;
+use calculus::closed::Closed;
+use formula::error::{FormulaError, FormulaFault};
+use game::error::BuildError;
+use lts::system::Lts;
+use lts::{Piece, WriteFault, put, put_pieces};
+use measures::observer::{Observer, Silent};
+use normal::error::NormalError;
+use reports::report::marked;
+use reports::status::error_status;
+use requests::error::MuError;
+use requests::request::{Options, Table};
+use requests::texts::{look_where, parse_front, read_front};
+use requests::watch::Watcher;
+use std::alloc::Global;
+use std::sync::Wait;
+use std::thread::Threads;
+use tables::error::TableError;
+use text::put_number;
+use text::sink::Sink;
+use text::source::Source;
+use verdicts::marks::{game_marks, plain_marks};
+
+/// What is found of a formula at the states of a system, and what its text says is expected.
+#[derive(Clone, Copy)]
+pub struct Found {
+    pub expected: Option<bool>,
+    /// Whether the initial state satisfies the formula.
+    pub answer: bool,
+    /// How many states do.
+    pub marked: usize,
+}
+
+/// Writes the line of a formula's text, as a table is asked for: the initial state's answer and how many states satisfy the formula, or why there
+/// is no answer; and the name. It answers the status that the line comes to: 0 where the answer is as expected, which is yes where the
+/// text says nothing, else 1, and of a refusal that of `status`. Where the table is strict, a formula is refused of which a word is on no
+/// transition.
+///
+/// # Errors
+/// W1.
+pub fn table_line<S: Source + Drop, W: Sink, H: Threads + Wait + Clone + Copy + Drop + Send + Sync>(
+    rt: &H,
+    alloc: Global,
+    system: &Lts,
+    request: &Table<'_>,
+    name: &str,
+    formula: S,
+    out: &mut W,
+) -> Result<u8, WriteFault>
+    ensures { TellsLine request.now.strict (way_by request.now.options request.now.plain) system.now.system S.can_fail name.now
+        (S.remaining formula) (W.taken out.old) (W.taken out.new) result }
+{
+    table_line_seen(rt, alloc, system, request, name, formula, out, &Silent)
+}
+
+/// Writes the line of a formula's text as `table_line` does, and tells a watcher that the formula is read, and what is being built, searched and lifted.
+///
+/// # Errors
+/// W1.
+pub fn table_line_seen<
+    S: Source + Drop,
+    W: Sink,
+    U: Watcher + Sync,
+    H: Threads + Wait + Clone + Copy + Drop + Send + Sync,
+>(
+    rt: &H,
+    alloc: Global,
+    system: &Lts,
+    request: &Table<'_>,
+    name: &str,
+    formula: S,
+    out: &mut W,
+    watcher: &U,
+) -> Result<u8, WriteFault>
+    ensures { TellsLine request.now.strict (way_by request.now.options request.now.plain) system.now.system S.can_fail name.now
+        (S.remaining formula) (W.taken out.old) (W.taken out.new) result }
+{
+    match find(rt, alloc, system, request, formula, watcher) {
+        Ok(found) => tell_answer(name, &found, system.states(), out),
+        Err(error) => tell_refusal(name, &error, out),
+    }
+}
+
+/// What is found of the formula that the reader's text spells.
+fn find<S: Source + Drop, U: Watcher + Sync, H: Threads + Wait + Clone + Copy + Drop + Send + Sync>(
+    rt: &H,
+    alloc: Global,
+    system: &Lts,
+    request: &Table<'_>,
+    formula: S,
+    watcher: &U,
+) -> Result<Found, MuError>
+    ensures finds { let strict = request.now.strict in let way = way_by request.now.options request.now.plain in let l = system.now.system in
+        (text : List ℕ) → S.remaining formula ≡ Some text → MatchResult result (IsFound strict way l text) (IsRefused strict way l text) }
+    ensures cause { IfErr result (HasCause S.can_fail error.Read) }
+{
+    match read_front(alloc, formula) {
+        Ok(front) => find_in(rt, alloc, system, request, &front, watcher),
+        Err(error) => Err(error),
+    }
+}
+
+/// What is found of the formula that a text spells, of which this is all, or the front that shows that it is too long.
+fn find_in<U: Watcher + Sync, H: Threads + Wait + Clone + Copy + Drop + Send + Sync>(
+    rt: &H,
+    alloc: Global,
+    system: &Lts,
+    request: &Table<'_>,
+    front: &[u8],
+    watcher: &U,
+) -> Result<Found, MuError>
+    ensures finds { let strict = request.now.strict in let way = way_by request.now.options request.now.plain in let l = system.now.system in
+        (text : List ℕ) → front.now ≡ take FORMULA_BYTES text → MatchResult result (IsFound strict way l text) (IsRefused strict way l text) }
+    ensures cause { IfErr result (HasCause false error.Read) }
+{
+    match parse_front(alloc, front) {
+        Ok(formula) => find_known(rt, alloc, system, request, front, &formula, watcher),
+        Err(error) => Err(error),
+    }
+}
+
+/// What is found of a formula with this text, of which each word has to be on a transition where the table is strict.
+fn find_known<U: Watcher + Sync, H: Threads + Wait + Clone + Copy + Drop + Send + Sync>(
+    rt: &H,
+    alloc: Global,
+    system: &Lts,
+    request: &Table<'_>,
+    text: &[u8],
+    formula: &Closed,
+    watcher: &U,
+) -> Result<Found, MuError>
+    ensures finds { let strict = request.now.strict in let way = way_by request.now.options request.now.plain in let l = system.now.system in
+        IsFormulaOf text.now (closed_formula formula.now) → MatchResult result (IsFound strict way l text.now) (IsRefused strict way l text.now) }
+    ensures cause { IfErr result (HasCause false error.Read) }
+{
+    watcher.has_read(system, formula);
+    match look_where(alloc, system, text, request.strict) {
+        Ok(()) => find_marked(rt, alloc, system, request, text, formula, watcher),
+        Err(error) => Err(error),
+    }
+}
+
+/// What is found of it where its words are on transitions, or may be on none.
+fn find_marked<U: Watcher + Sync, H: Threads + Wait + Clone + Copy + Drop + Send + Sync>(
+    rt: &H,
+    alloc: Global,
+    system: &Lts,
+    request: &Table<'_>,
+    text: &[u8],
+    formula: &Closed,
+    watcher: &U,
+) -> Result<Found, MuError>
+    ensures finds { let strict = request.now.strict in let way = way_by request.now.options request.now.plain in let l = system.now.system in
+        IsFormulaOf text.now (closed_formula formula.now) → AreKnown strict l text.now
+        → MatchResult result (IsFound strict way l text.now) (IsRefused strict way l text.now) }
+    ensures cause { IfErr result (HasCause false error.Read) }
+{
+    let options = &request.options;
+    match marks_by(rt, alloc, system, formula, options, request.plain, watcher) {
+        Ok(marks) => Ok(found_of(system, &marks, expectation(text))),
+        Err(error) => Err(error),
+    }
+}
+
+/// A mark for each state, true where it satisfies the formula: by sets of states where it is plain, else by the game, as the
+/// options ask for.
+///
+/// # Errors
+/// Those of `plain_marks`, or of `game_marks`.
+fn marks_by<O: Observer + Sync, H: Threads + Wait + Clone + Copy + Drop + Send + Sync>(
+    rt: &H,
+    alloc: Global,
+    system: &Lts,
+    formula: &Closed,
+    options: &Options,
+    plain: bool,
+    observer: &O,
+) -> Result<Vec<bool>, MuError>
+    ensures { let l = system.now.system in let f = closed_formula formula.now in let way = way_by options.now plain in
+        MatchResult result (λ marks. AreMarks way l f marks.items) (IsBeyond way l f) }
+{
+    if plain {
+        plain_marks(alloc, system, formula)
+    } else {
+        game_marks(rt, alloc, system, formula, options, observer)
+    }
+}
+
+/// What is found where these states satisfy the formula.
+fn found_of(system: &Lts, marks: &[bool], expected: Option<bool>) -> Found
+    requires { length marks.now ≡ system.now.system.states }
+    ensures expected { result.expected ≡ expected }
+    ensures answer { result.answer ≡ slice_index_or marks.now system.now.system.initial false }
+    ensures marked { result.marked ≡ count_by (λ mark. mark) marks.now }
+{
+    Found {
+        expected,
+        answer: marks[system.initial() as usize],
+        marked: marked(marks),
+    }
+}
+
+/// Writes the line of an answer, and answers its status.
+fn tell_answer<W: Sink>(
+    name: &str,
+    found: &Found,
+    states: u32,
+    out: &mut W,
+) -> Result<u8, WriteFault>
+    ensures wrote { Wrote (W.taken out.old) (W.taken out.new) result
+        (answer_line name.now found.now.expected found.now.answer found.now.marked states) }
+    ensures status { IfOk result (λ status. status ≡ (if is_as_expected found.now.expected found.now.answer then 0 else 1)) }
+{
+    match put_answer(name, found, states, out) {
+        Ok(()) => Ok(answer_status(found)),
+        Err(fault) => Err(fault),
+    }
+}
+
+/// Writes the line of a refusal, and answers its status.
+fn tell_refusal<W: Sink>(name: &str, error: &MuError, out: &mut W) -> Result<u8, WriteFault>
+    ensures wrote { Wrote (W.taken out.old) (W.taken out.new) result (refusal_line name.now error.now) }
+    ensures status { IfOk result (λ status. status ≡ status_of_error error.now) }
+{
+    match put_refusal(name, error, out) {
+        Ok(()) => Ok(error_status(error)),
+        Err(fault) => Err(fault),
+    }
+}
+
+/// 0 where the answer is as expected, which is yes where nothing is said, and 1 where it isn't.
+fn answer_status(found: &Found) -> u8
+    ensures { result ≡ (if is_as_expected found.now.expected found.now.answer then 0 else 1) }
+{
+    if is_as_expected(found) { 0 } else { 1 }
+}
+
+fn is_as_expected(found: &Found) -> bool
+    ensures { result ≡ is_as_expected found.now.expected found.now.answer }
+{
+    match found.expected {
+        Some(false) => !found.answer,
+        Some(true) | None => found.answer,
+    }
+}
+
+/// Writes the line of an answer.
+fn put_answer<W: Sink>(
+    name: &str,
+    found: &Found,
+    states: u32,
+    out: &mut W,
+) -> Result<(), WriteFault>
+    ensures { Wrote (W.taken out.old) (W.taken out.new) result
+        (answer_line name.now found.now.expected found.now.answer found.now.marked states) }
+{
+    let answer: &[u8] = if found.answer { b"yes " } else { b"no " };
+    put_pieces(
+        out,
+        &[
+            Piece::Bytes(answer),
+            Piece::Number(found.marked as u64),
+            Piece::Bytes(b" of "),
+            Piece::Number(u64::from(states)),
+            Piece::Bytes(b" "),
+            Piece::Bytes(name.as_bytes()),
+            Piece::Bytes(remark(found)),
+            Piece::Bytes(b"\n"),
+        ],
+    )
+}
+
+/// What is said of an answer where one is expected.
+fn remark(found: &Found) -> &'static [u8]
+    ensures { result.now ≡ remark found.now.expected found.now.answer }
+{
+    match found.expected {
+        None => b"",
+        Some(_) if is_as_expected(found) => b" as expected",
+        Some(_) => b" UNEXPECTED",
+    }
+}
+
+/// Writes the line of a refusal.
+fn put_refusal<W: Sink>(name: &str, error: &MuError, out: &mut W) -> Result<(), WriteFault>
+    ensures { Wrote (W.taken out.old) (W.taken out.new) result (refusal_line name.now error.now) }
+{
+    put_code(error, out)?;
+    put_place(error, out)?;
+    put_name(name, out)
+}
+
+/// Writes the code of a refusal.
+fn put_code<W: Sink>(error: &MuError, out: &mut W) -> Result<(), WriteFault>
+    ensures { Wrote (W.taken out.old) (W.taken out.new) result (code_of error.now) }
+{
+    put(out, code(error))
+}
+
+/// Writes a blank, the name, and the line's end.
+fn put_name<W: Sink>(name: &str, out: &mut W) -> Result<(), WriteFault>
+    ensures { Wrote (W.taken out.old) (W.taken out.new) result (name_end name.now) }
+{
+    put_pieces(
+        out,
+        &[
+            Piece::Bytes(b" "),
+            Piece::Bytes(name.as_bytes()),
+            Piece::Bytes(b"\n"),
+        ],
+    )
+}
+
+/// Writes the place of a refusal in the formula's text, if it has one.
+fn put_place<W: Sink>(error: &MuError, out: &mut W) -> Result<(), WriteFault>
+    ensures { Wrote (W.taken out.old) (W.taken out.new) result (place_of error.now) }
+{
+    match error {
+        MuError::Formula(FormulaError::Fault { fault: _, offset }) | MuError::NoLabel { offset } =>
+            put_number(out, b" at offset ", *offset),
+        _ => Ok(()),
+    }
+}
+
+/// The code of a refusal, as the program shows it.
+fn code(error: &MuError) -> &'static [u8]
+    ensures { result.now ≡ code_of error.now }
+{
+    match error {
+        MuError::Read => b"U3",
+        MuError::Memory => b"U4",
+        MuError::Formula(FormulaError::Fault { fault, offset: _ }) => fault_code(*fault),
+        MuError::Formula(FormulaError::Memory) => b"F9",
+        MuError::Normal(NormalError::TooManyNodes) => b"N1",
+        MuError::Normal(NormalError::PriorityTooGreat) => b"N2",
+        MuError::Normal(NormalError::Memory) => b"N3",
+        MuError::Build(BuildError::TooManyVertices) => b"B1",
+        MuError::Build(BuildError::Memory) => b"B2",
+        MuError::Table(TableError::TooManyRanks) => b"T1",
+        MuError::Table(TableError::Memory) => b"T2",
+        MuError::Table(TableError::NoSeat) => b"T3",
+        MuError::Solve(_) => b"V1",
+        MuError::NoLabel { .. } => b"L1",
+        // No formula is refused so.
+        _ => b"",
+    }
+}
+
+fn fault_code(fault: FormulaFault) -> &'static [u8]
+    ensures { result.now ≡ fault_code fault }
+{
+    match fault {
+        FormulaFault::NoToken => b"F1",
+        FormulaFault::Unexpected => b"F2",
+        FormulaFault::Unfinished => b"F3",
+        FormulaFault::ReservedWord => b"F4",
+        FormulaFault::Unbound => b"F5",
+        FormulaFault::OddNegations => b"F6",
+        FormulaFault::NotAnAction => b"F7",
+        FormulaFault::TooLarge => b"F8",
+    }
+}
