@@ -14,7 +14,7 @@ use command_line::line::command;
 use console::refusal::{NO_SOURCES, Refusal, Sources, tell};
 use console::same::keep_answer_apart;
 use engines::error::{ArgumentError, MuError};
-use engines::status::{error_status, status};
+use engines::status::{error_status, status_of_answer};
 use invocation::request::Command;
 use lts::put;
 use runs::normal::run_normal;
@@ -82,7 +82,10 @@ fn run_command<T: Threads + Wait + Clock + Clone + Copy + Drop + Send + Sync + '
         Command::Help(command) => show(rt, help_text(rt.alloc(), *command)),
         Command::Version => show(rt, version_text(rt.alloc())),
     };
-    Ok(status(&Ok(answer?)))
+    match answer {
+        Ok(answer) => Ok(status_of_answer(answer)),
+        Err(refusal) => Err(refusal),
+    }
 }
 
 /// Writes a text that was asked for.

@@ -1,6 +1,6 @@
 // The exit status of the program.
 
-ghost use Rattle.std.specs.Prelude.{◌≡◌};
+ghost use Rattle.std.specs.Prelude.{◌≡◌, Ok};
 ghost use Rattle.reports.specs.Status.{error_status as status_of_error, status_of};
 
 use evidence::error::EvidenceError;
@@ -18,10 +18,16 @@ pub fn status(answer: &Result<bool, MuError>) -> u8
     ensures { result ≡ status_of answer.now }
 {
     match answer {
-        Ok(true) => 0,
-        Ok(false) => 1,
+        Ok(answer) => status_of_answer(*answer),
         Err(error) => error_status(error),
     }
+}
+
+/// 0 for yes, 1 for no.
+pub fn status_of_answer(answer: bool) -> u8
+    ensures { result ≡ status_of (Ok answer) }
+{
+    if answer { 0 } else { 1 }
 }
 
 /// 2 where the input is at fault, and 3 where memory, a file, a read or a write failed.

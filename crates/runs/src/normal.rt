@@ -10,5 +10,5 @@ use std::io;
 pub fn run_normal(rt: &HostRuntime, request: &Normalize<'_>) -> Result<bool, Refusal> {
     let formula = open(rt, request.formula)?;
     let out = &mut io::writer(rt);
-    Ok(normal_asked(rt.alloc(), request, formula, out)?)
+    Refusal::or_answer(normal_asked(rt.alloc(), request, formula, out))
 }

@@ -1,7 +1,7 @@
 // The command `replay`.
 
 use commands::replay_text::replay_asked;
-use console::input::open;
+use console::input::{open, open_both};
 use console::refusal::Refusal;
 use requests::request::Replay;
 use std::io;
@@ -13,9 +13,8 @@ pub fn run_replay<T: Threads + Sync>(
     threads: &T,
     request: &Replay<'_>,
 ) -> Result<bool, Refusal> {
-    let system = open(rt, request.system)?;
-    let formula = open(rt, request.formula)?;
+    let (system, formula) = open_both(rt, request.system, request.formula)?;
     let schedule = open(rt, request.schedule)?;
     let out = &mut io::writer(rt);
-    Ok(replay_asked(threads, rt.alloc(), request, system, formula, schedule, out)?)
+    Refusal::or_answer(replay_asked(threads, rt.alloc(), request, system, formula, schedule, out))
 }
