@@ -1,4 +1,4 @@
-// Command lines, and what is asked for by them.
+// Command lines, and what is asked for by them. Lines that are refused stand in tests/commands.
 
 use crate::common::{holds, same};
 use crate::help::HELP;
@@ -419,172 +419,6 @@ fn takes_other_commands(rt: HostRuntime) {
     take_all(&rt, &OTHERS);
 }
 
-static REFUSED: [&str; 86] = [
-    "mucheck check - -",
-    "mucheck table - f -",
-    "mucheck table s - f -",
-    "mucheck verify - - o",
-    "mucheck verify - e -",
-    "mucheck verify g - -",
-    "mucheck replay - f -",
-    "mucheck check - f --game -",
-    "mucheck check s f --summary --quiet",
-    "mucheck check s f -q --states yes",
-    "mucheck check s f --states no --summary",
-    "mucheck check s f --quiet --summary --states no",
-    "mucheck check s f --states",
-    "mucheck check s f --states maybe",
-    "mucheck check s f --states no --limit 0",
-    "mucheck check s f --states no --limit 4294967296",
-    "mucheck check s f --limit 3",
-    "mucheck check s f --summary --limit 3",
-    "mucheck table s f --summary",
-    "mucheck why s",
-    "mucheck why s f g",
-    "mucheck why s f --plain",
-    "mucheck normal f --strict",
-    "mucheck solve g --strict",
-    "mucheck solve g --evidence",
-    "mucheck solve g --evidence ",
-    "mucheck solve g.even --evidence g",
-    "mucheck table s f --strict=yes",
-    "mucheck why s f --stats",
-    "mucheck check s f --strict=yes",
-    "mucheck why s f --witness w",
-    "mucheck table",
-    "mucheck table s",
-    "mucheck table  f",
-    "mucheck table s f ",
-    "mucheck table s f --quiet",
-    "mucheck table s f --witness w",
-    "mucheck",
-    "mucheck --help",
-    "mucheck --version",
-    "mucheck check --version",
-    "mucheck check s f --plain --witness w",
-    "mucheck check s f --witness ",
-    "mucheck check s f --witness",
-    "mucheck check s f --quiet w",
-    "mucheck solve g --quiet",
-    "mucheck solve g --witness w",
-    "mucheck check s",
-    "mucheck check s f --plain --workers 65",
-    "mucheck check s f --plain --workers 0",
-    "mucheck check s f --workers 65",
-    "mucheck check s f --shards 0",
-    "mucheck check s f --shards 257",
-    "mucheck check s f --board other",
-    "mucheck check s f --game ",
-    "mucheck check s f --evidence ",
-    "mucheck check s f --plain --game g",
-    "mucheck check s f --plain --evidence e",
-    "mucheck check s f --priorities other",
-    "mucheck check s f --plain --priorities other",
-    "mucheck check  f",
-    "mucheck check --help",
-    "mucheck normal",
-    "mucheck normal ",
-    "mucheck normal f g",
-    "mucheck normal f --priorities",
-    "mucheck normal f --plain",
-    "mucheck solve",
-    "mucheck solve g --workers 65",
-    "mucheck solve g --board other",
-    "mucheck verify g",
-    "mucheck verify g e ",
-    "mucheck verify g e o p",
-    "mucheck replay s f",
-    "mucheck replay s f t u",
-    "mucheck replay s f ",
-    "mucheck replay s f t --workers 0",
-    "mucheck replay s f t --workers 65",
-    "mucheck replay s f t --priorities nested",
-    "mucheck explain",
-    "mucheck explain ",
-    "mucheck explain A2 A3",
-    "mucheck help check solve",
-    "mucheck version 2",
-    "mucheck solve g -q",
-    "mucheck other",
-];
-
-/// Whether the words of a line are no command.
-fn is_refused(alloc: Global, line: &str) -> Result<bool, AllocError> {
-    let words = words(alloc, line)?;
-    Ok(is_no_command(alloc, words.as_slice()))
-}
-
-fn is_no_command(alloc: Global, words: &[String]) -> bool {
-    matches!(&command(alloc, words), Err(MuError::Arguments(_)))
-}
-
-#[test]
-fn refuses_command_lines(rt: HostRuntime) {
-    for line in &REFUSED {
-        holds(&rt, line, matches!(is_refused(rt.alloc(), line), Ok(true)));
-    }
-}
-
-/// Lines that would destroy a file, or write what there isn't, and what is said of them.
-static DESTRUCTIVE: [(&str, &str); 14] = [
-    (
-        "mucheck check s f --game s",
-        "the file of --game and SYSTEM are the same file",
-    ),
-    (
-        "mucheck check s f --game f",
-        "the file of --game and FORMULA are the same file",
-    ),
-    (
-        "mucheck check --witness s s f",
-        "the file of --witness and SYSTEM are the same file",
-    ),
-    (
-        "mucheck check s f --witness f",
-        "the file of --witness and FORMULA are the same file",
-    ),
-    (
-        "mucheck check s f --witness g --game g",
-        "the file of --game and the file of --witness are the same file",
-    ),
-    (
-        "mucheck check e.even f --evidence e",
-        "PATH.even of --evidence and SYSTEM are the same file",
-    ),
-    (
-        "mucheck check s e.odd --evidence e",
-        "PATH.odd of --evidence and FORMULA are the same file",
-    ),
-    (
-        "mucheck check s f --evidence e --game e.even",
-        "the file of --game and PATH.even of --evidence are the same file",
-    ),
-    (
-        "mucheck check s f --evidence e --witness e.odd",
-        "PATH.odd of --evidence and the file of --witness are the same file",
-    ),
-    (
-        "mucheck solve --evidence g g.even",
-        "PATH.even of --evidence and GAME are the same file",
-    ),
-    (
-        "mucheck solve g.odd --evidence g",
-        "PATH.odd of --evidence and GAME are the same file",
-    ),
-    (
-        "mucheck check s f --plain --game g",
-        "--plain makes no game, so --game, --evidence and --witness can't stand beside it",
-    ),
-    (
-        "mucheck check s f --plain --evidence e",
-        "--plain makes no game, so --game, --evidence and --witness can't stand beside it",
-    ),
-    (
-        "mucheck check --witness w --plain s f",
-        "--plain makes no game, so --game, --evidence and --witness can't stand beside it",
-    ),
-];
-
 /// What is written of a line that asks for help, or is refused.
 fn told(rt: &(impl Abort + AllocGlobal), line: &str) -> String {
     line_told(rt.alloc(), line).expect(rt, "memory")
@@ -599,19 +433,6 @@ fn line_told(alloc: Global, line: &str) -> Result<String, AllocError> {
 fn tells(rt: &(impl Abort + AllocGlobal), line: &str, wanted: &str) {
     let text = told(rt, line);
     same(rt, line, text.as_str(), wanted);
-}
-
-/// This is written of a line behind the word that it is an error.
-fn tells_error(rt: &(impl Abort + AllocGlobal), line: &str, wanted: &str) {
-    let wanted = format!(in rt.alloc(); "error: {wanted}\n").expect(rt, "memory");
-    tells(rt, line, wanted.as_str());
-}
-
-#[test]
-fn says_what_would_be_destroyed(rt: HostRuntime) {
-    for (line, wanted) in &DESTRUCTIVE {
-        tells_error(&rt, line, wanted);
-    }
 }
 
 /// Names of a witness's file, and whether it is a drawing.
@@ -654,9 +475,7 @@ fn codes_are_explained(rt: HostRuntime) {
         "A3 at line 1: more than 10,000,000 transitions or 1,000,000 states are announced\n\
         What to do: reduce the system first, for example by branching bisimulation\n",
     );
-    for code in &["", "A", "A0", "A33", "a3", "T3"] {
-        holds(&rt, code, is_no_code(rt.alloc(), code));
-    }
+    holds(&rt, "no code", is_no_code(rt.alloc(), ""));
 }
 
 /// What help tells of a command, or of the program.
@@ -665,14 +484,9 @@ fn help_of(rt: &(impl Abort + AllocGlobal), command: Option<&str>) -> String {
 }
 
 /// What help tells of a command is what its option shows.
-fn helps(rt: &(impl Abort + AllocGlobal), command: &str) {
-    let line = format!(in rt.alloc(); "mucheck {command} --help").expect(rt, "memory");
-    let wanted = help_of(rt, Some(command));
-    tells(rt, line.as_str(), wanted.as_str());
-}
-
-fn is_no_topic(alloc: Global, topic: &str) -> bool {
-    matches!(&help_text(alloc, Some(topic)), Err(MuError::Arguments(_)))
+fn helps(rt: &(impl Abort + AllocGlobal)) {
+    let wanted = help_of(rt, Some("check"));
+    tells(rt, "mucheck check --help", wanted.as_str());
 }
 
 /// This is what help tells of the program.
@@ -681,24 +495,18 @@ fn helps_with(rt: &(impl Abort + AllocGlobal), wanted: &str) {
     same(rt, "help", text.as_str(), wanted);
 }
 
-/// This is told of the version.
-fn is_version(rt: &(impl Abort + AllocGlobal), wanted: &str) {
+/// What is told of the version is what its option shows.
+fn is_version(rt: &(impl Abort + AllocGlobal)) {
     let text = version_text(rt.alloc()).expect(rt, "version");
-    same(rt, "version", text.as_str(), wanted);
+    tells(rt, "mucheck --version", text.as_str());
 }
 
-/// What is told of help and version is what their options show.
+/// What is told of help and version is what their options show. tests/commands asks for the help of the other commands, and for the version's words.
 #[test]
 fn texts_are_those_of_the_options(rt: HostRuntime) {
-    for command in &[
-        "check", "why", "table", "normal", "solve", "verify", "replay", "explain", "help",
-        "version",
-    ] {
-        helps(&rt, command);
-    }
+    helps(&rt);
     helps_with(&rt, HELP);
-    is_version(&rt, TOLD_VERSION);
-    holds(&rt, "no such command", is_no_topic(rt.alloc(), "other"));
+    is_version(&rt);
 }
 
 /// What is written of the help that was asked for.
@@ -707,80 +515,6 @@ fn help(alloc: Global, words: &[String]) -> Result<String, AllocError> {
         Err(MuError::Arguments(argument)) => argument.to_string(alloc),
         _ => Ok(String::new(alloc)),
     }
-}
-
-/// A command, and parts of its help.
-static SHOWN: [(&str, [&str; 4]); 6] = [
-    (
-        "mucheck table --help",
-        [
-            "FORMULA",
-            "--plain",
-            "% expect yes",
-            "Example:\n  mucheck table ",
-        ],
-    ),
-    (
-        "mucheck check --help",
-        [
-            "--witness",
-            "--workers",
-            "--summary",
-            "Example:\n  mucheck check ",
-        ],
-    ),
-    (
-        "mucheck normal --help",
-        [
-            "FORMULA",
-            "--priorities",
-            "nested",
-            "Example:\n  mucheck normal ",
-        ],
-    ),
-    (
-        "mucheck solve --help",
-        [
-            "PGSolver",
-            "--evidence",
-            "--board",
-            "Example:\n  mucheck solve ",
-        ],
-    ),
-    (
-        "mucheck verify --help",
-        ["GAME", "EVIDENCE", "OTHER", "Example:\n  mucheck verify "],
-    ),
-    (
-        "mucheck replay --help",
-        [
-            "SCHEDULE",
-            "--workers",
-            "2 is the default",
-            "Example:\n  mucheck replay ",
-        ],
-    ),
-];
-
-fn shows(rt: &impl Abort, text: &str, parts: &[&str]) {
-    for part in parts {
-        holds(rt, part, text.contains(*part));
-    }
-}
-
-#[test]
-fn help_shows_what_is_served(rt: HostRuntime) {
-    for (line, parts) in &SHOWN {
-        shows(&rt, told(&rt, line).as_str(), parts.as_slice());
-    }
-}
-
-/// The first line is the program's name with its version, the second one what `rt version` says of the toolchain.
-const TOLD_VERSION: &str = "mucheck 0.9.0\nproved with rattle-kit-13f logic dac8208d650f15bf\n";
-
-#[test]
-fn version_tells_the_toolchain(rt: HostRuntime) {
-    tells(&rt, "mucheck --version", TOLD_VERSION);
 }
 
 /// The text that the script `./mucheck` shows as long as the program isn't built is the program's own.

@@ -1,4 +1,5 @@
-// What the command `replay` writes, answers and refuses: the worked examples of docs/FORMATS.md, and schedules worked out by hand.
+// What the command `replay` writes and answers, and what it tells where a read or a write fails: the worked examples of docs/FORMATS.md, and schedules
+// worked out by hand. tests/commands asks the built program for the same, and for what is refused.
 
 use crate::common::{answers, cramped, holds, is_cut, is_written, ready};
 use commands::replay_text::{replay_asked, replay_text};
@@ -58,6 +59,10 @@ const LATE_BUT_FIRST: &str =
 const QUIET: &str =
     "take 0 0\nread 0 0\nraise 0\ntake 1 1\nread 1 1\nraise 1\ntake 0 2\nread 0 5\nraise 0\ntake 1 3\nread 1 0\nraise 1\ntake 0 4\nread 0 1\nraise 0\ntake 1 5\nread 1 0\nraise 1\n";
 
+/// What is written of a schedule without events in that game.
+const NO_EVENT: &str =
+    "events 0 done 0 skipped 0\n0 (0)\n1 top\n2 (0)\n3 (0)\n4 (0)\n5 (0)\npending 0,1,2,3,4,5\nsettled no\nquiet no\n";
+
 /// Schedules, and what is written of them.
 static TOLD: [(Asked<'static>, &str); 8] = [
     (
@@ -76,10 +81,7 @@ static TOLD: [(Asked<'static>, &str); 8] = [
         ("<a>true", "take 63 4\ntake 0 4\nread 63 1\nraise 63\n", 64),
         "events 4 done 3 skipped 1\n0 (0)\n1 top\n2 (0)\n3 (0)\n4 top\n5 (0)\npending 0,1,2,3,5\nsettled yes\nquiet no\n",
     ),
-    (
-        ("<a>true", "", 2),
-        "events 0 done 0 skipped 0\n0 (0)\n1 top\n2 (0)\n3 (0)\n4 (0)\n5 (0)\npending 0,1,2,3,4,5\nsettled no\nquiet no\n",
-    ),
+    (("<a>true", "", 2), NO_EVENT),
     (
         ("<a>true", QUIET, 2),
         "events 18 done 18 skipped 0\n0 (0)\n1 top\n2 (0)\n3 (0)\n4 top\n5 (0)\npending -\nsettled yes\nquiet yes\n",
@@ -99,39 +101,16 @@ fn replays_write_what_was_worked_out(rt: HostRuntime) {
     for (asked, text) in &TOLD {
         tells(&rt, *asked, text, "yes");
     }
+    writes_of_no_event(&rt);
 }
 
-/// Texts that are refused: the system's before the formula's, and the schedule's last. In a line its shape comes before its worker,
-/// and that before its vertex.
-static REFUSED: [(Asked<'static>, &str); 12] = [
-    (("<a><a>true", "take 2 0\n", 2), "S2 at line 1"),
-    (("<a><a>true", "take 0 8\n", 2), "S3 at line 1"),
-    (("<a><a>true", "take 0\n", 2), "S1 at line 1"),
-    (("<a><a>true", "take 2 8", 2), "S2 at line 1"),
-    (("<a><a>true", "raise 0\ntake 3 8\n", 3), "S2 at line 2"),
-    (("<a><a>true", "take 2 7\nread 2 8\n", 3), "S3 at line 2"),
-    (("<a><a>true", "take 0 8\n\n", 2), "S3 at line 1"),
-    (("<a><a>true", "raise 1\n\nraise 0\n", 2), "S1 at line 2"),
-    (("<a><a>true", "raise 0\r\n", 2), "S1 at line 1"),
-    (("<a><a>true", "push 00 1\n", 2), "S1 at line 1"),
-    (("<a><a>true", "raise 4294967296\n", 2), "S2 at line 1"),
-    (("mu X. Y", "take 2 0\n", 2), "F5 at offset 6"),
-];
-
-#[test]
-fn replays_pass_refusals_on(rt: HostRuntime) {
-    for (asked, refusal) in &REFUSED {
-        tells(&rt, *asked, "", refusal);
-    }
-    refuses_first(&rt);
-}
-
-/// Of three texts that are none it is the system's that is refused.
-fn refuses_first<H: Abort + Threads + Sync + AllocGlobal>(rt: &H) {
+/// Without a request, and of no event, two workers write the same.
+fn writes_of_no_event<H: Abort + Threads + Sync + AllocGlobal>(rt: &H) {
     let mut out = Vec::new(rt.alloc());
-    let (system, formula, schedule) = (b"".as_slice(), b"<a".as_slice(), b"\n".as_slice());
-    let answer = replay_text(rt, rt.alloc(), system, formula, schedule, 2, &mut out);
-    answers(rt, "no system", &answer, "A1 at line 1");
+    let (system, formula) = (RING.as_bytes(), b"<a>true".as_slice());
+    let answer = replay_text(rt, rt.alloc(), system, formula, b"".as_slice(), 2, &mut out);
+    answers(rt, NO_EVENT, &answer, "yes");
+    holds(rt, NO_EVENT, out.as_slice() == NO_EVENT.as_bytes());
 }
 
 /// The schedule of a late read, of which the reader fails behind so many bytes.
