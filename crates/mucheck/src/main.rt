@@ -17,7 +17,7 @@ use engines::error::{ArgumentError, MuError};
 use engines::status::{error_status, status_of_answer};
 use invocation::request::Command;
 use lts::put;
-use runs::normal::run_normal;
+use runs::normalize::run_normal;
 use runs::replay::run_replay;
 use runs::solve::run_solve;
 use runs::verify::run_verify;

@@ -2,7 +2,7 @@
 // answers what comes of it.
 #![tactic(auto)]
 
-pub mod normal;
+pub mod normalize;
 pub mod replay;
 pub mod solve;
 pub mod verify;
