@@ -4,8 +4,6 @@
 #[cfg(test)]
 mod common;
 #[cfg(test)]
-mod dependent_rule;
-#[cfg(test)]
 mod faults;
 #[cfg(test)]
 mod gated_checks;

@@ -1,6 +1,6 @@
 // Checks that are strict about the words of their formulas, and the same without. Which words are on no transition was read off the system.
 
-use crate::common::{DEFAULTS, repeats, same};
+use crate::common::{DEFAULTS, same};
 use crate::unwritten::{Written, unwritten};
 use engines::engine::check_asked;
 use engines::error::MuError;
@@ -19,20 +19,6 @@ const WANTED: Wanted = Wanted {
     witness: None,
     report: ReportForm::Summary,
 };
-
-/// Formulas, what a check of them comes to, and what a strict one does.
-static ROWS: [(&str, &str, &str); 10] = [
-    ("<a>true", "yes", "yes"),
-    ("<b>true", "no", "no"),
-    ("<c>true", "no", "no"),
-    ("<a.(c|b)>true", "yes", "yes"),
-    ("<d>true", "no", "L1 at offset 1"),
-    ("[!\"a \"]false", "no", "L1 at offset 2"),
-    ("<a>nu d. <\"send(1)\">d", "yes", "yes"),
-    ("% x\n<a>[send]false", "yes", "L1 at offset 8"),
-    ("<a> || <d>", "F2 at offset 4", "F2 at offset 4"),
-    ("<d>X", "F5 at offset 3", "F5 at offset 3"),
-];
 
 /// The answer, or the code and its place; and whether something was written.
 fn outcome<R: Threads + Wait + Clone + Copy + Drop + Send + Sync>(
@@ -112,15 +98,7 @@ fn come_to<R: Abort + AllocGlobal + Threads + Wait + Clone + Copy + Drop + Send 
 }
 
 #[test]
-fn a_strict_check_refuses_the_first_word_on_no_transition(rt: HostRuntime) {
-    for (formula, lax, strict) in &ROWS {
-        come_to(&rt, formula, lax, strict);
-    }
-}
-
-#[test]
-fn a_word_is_refused_before_the_normal_form(rt: HostRuntime) {
-    let formula = repeats(&rt, "<", "(a + d) . ", 13, "a>true");
-    comes_to(&rt, &check(false, false), formula.as_str(), "N1");
-    comes_to(&rt, &check(false, true), formula.as_str(), "L1 at offset 6");
+fn a_strict_check_refuses_a_word_on_no_transition(rt: HostRuntime) {
+    come_to(&rt, "<a>true", "yes", "yes");
+    come_to(&rt, "<d>true", "no", "L1 at offset 1");
 }

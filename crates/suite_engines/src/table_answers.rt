@@ -17,45 +17,6 @@ use std::sync::atomic::{AtomicU64, Ordering};
 use std::thread::Threads;
 use table_lines::table::{table_line, table_line_seen};
 
-/// The text of a formula, its line, and the status that it comes to.
-static LINES: [(&str, &str, u8); 12] = [
-    ("<a>true", "yes 1 of 2 f.mcf\n", 0),
-    ("<b>true", "no 1 of 2 f.mcf\n", 1),
-    ("nu X. <true>X", "yes 2 of 2 f.mcf\n", 0),
-    ("% expect yes\n<a>true", "yes 1 of 2 f.mcf as expected\n", 0),
-    ("% expect no\n<a>true", "yes 1 of 2 f.mcf UNEXPECTED\n", 1),
-    (
-        "% expect no \t\r\n<b>true",
-        "no 1 of 2 f.mcf as expected\n",
-        0,
-    ),
-    ("% expect yes\r\n<b>true", "no 1 of 2 f.mcf UNEXPECTED\n", 1),
-    // Three that are no such line, or not the first.
-    ("% expect no.\n<b>true", "no 1 of 2 f.mcf\n", 1),
-    (" % expect no\n<b>true", "no 1 of 2 f.mcf\n", 1),
-    ("\n% expect no\n<b>true", "no 1 of 2 f.mcf\n", 1),
-    ("<a>true && X", "F5 at offset 11 f.mcf\n", 2),
-    ("% expect no\n?", "F1 at offset 12 f.mcf\n", 2),
-];
-
-/// Formulas, their lines where the table isn't strict, and where it is. Which words are on no transition was read off the system.
-static STRICT: [(&str, &str, &str); 6] = [
-    ("<a>true", "yes 1 of 2 f.mcf\n", "yes 1 of 2 f.mcf\n"),
-    (
-        "[true*]<true>true",
-        "yes 2 of 2 f.mcf\n",
-        "yes 2 of 2 f.mcf\n",
-    ),
-    ("[c]false", "yes 2 of 2 f.mcf\n", "L1 at offset 1 f.mcf\n"),
-    (
-        "% expect yes\n[a]<\"b(1)\">true",
-        "no 1 of 2 f.mcf UNEXPECTED\n",
-        "L1 at offset 17 f.mcf\n",
-    ),
-    ("nu c. <b>c", "no 0 of 2 f.mcf\n", "no 0 of 2 f.mcf\n"),
-    ("<c>X", "F5 at offset 3 f.mcf\n", "F5 at offset 3 f.mcf\n"),
-];
-
 /// A table, by sets of states or by the game, strict or not.
 fn table(alloc: Global, plain: bool, strict: bool) -> Table<'static> {
     Table {
@@ -106,15 +67,6 @@ fn tells<R: Abort + AllocGlobal + Threads + Wait + Clone + Copy + Drop + Send + 
     holds!(rt; found == Some(status), formula);
 }
 
-#[test]
-fn lines_are_those_worked_out(rt: HostRuntime) {
-    let system = system_of(&rt, RING);
-    for row in &LINES {
-        tells(&rt, &system, true, row);
-        tells(&rt, &system, false, row);
-    }
-}
-
 /// The formula has the one line where the table isn't strict, and the other where it is.
 fn tells_strictly<R: Abort + AllocGlobal + Threads + Wait + Clone + Copy + Drop + Send + Sync>(
     rt: &R,
@@ -127,13 +79,22 @@ fn tells_strictly<R: Abort + AllocGlobal + Threads + Wait + Clone + Copy + Drop 
     tells_line(rt, system, &table(rt.alloc(), plain, true), formula, strict);
 }
 
+/// Lines by sets of states or by the game, of which the first has a status. Which word is on no transition was read off the system.
+fn tells_lines<R: Abort + AllocGlobal + Threads + Wait + Clone + Copy + Drop + Send + Sync>(
+    rt: &R,
+    system: &Lts,
+    plain: bool,
+) {
+    let refused = ("[c]false", "yes 2 of 2 f.mcf\n", "L1 at offset 1 f.mcf\n");
+    tells(rt, system, plain, &("<a>true", "yes 1 of 2 f.mcf\n", 0));
+    tells_strictly(rt, system, plain, &refused);
+}
+
 #[test]
-fn a_strict_table_refuses_a_word_on_no_transition(rt: HostRuntime) {
+fn a_line_is_an_answer_or_a_refusal(rt: HostRuntime) {
     let system = system_of(&rt, RING);
-    for row in &STRICT {
-        tells_strictly(&rt, &system, true, row);
-        tells_strictly(&rt, &system, false, row);
-    }
+    tells_lines(&rt, &system, true);
+    tells_lines(&rt, &system, false);
 }
 
 fn is_cut<R: Abort + AllocGlobal + Threads + Wait + Clone + Copy + Drop + Send + Sync>(
