@@ -125,19 +125,8 @@ impl<'a> Files<'a> {
         }
     }
 
-    /// What came of a command that wrote to them: its answer, unless one of them could not be made.
-    ///
-    /// # Errors
-    /// U2, and those of the command.
-    pub fn outcome(self, answer: Result<bool, MuError>) -> Result<bool, Refusal> {
-        match self.into_refusal() {
-            Some(refusal) => Err(refusal),
-            None => Refusal::or_answer(answer),
-        }
-    }
-
-    // Why one of them could not be made.
-    fn into_refusal(mut self) -> Option<Refusal> {
+    /// Why one of them could not be made.
+    pub fn into_refusal(mut self) -> Option<Refusal> {
         self.refusal.take()
     }
 

@@ -43,18 +43,6 @@ pub fn open(rt: &HostRuntime, name: &str) -> Result<Input, Refusal> {
     }
 }
 
-/// Two files, opened in this order before the first is read.
-///
-/// # Errors
-/// U2.
-pub fn open_both(rt: &HostRuntime, first: &str, second: &str) -> Result<(Input, Input), Refusal> {
-    let first = open(rt, first)?;
-    match open(rt, second) {
-        Ok(second) => Ok((first, second)),
-        Err(refusal) => Err(refusal),
-    }
-}
-
 /// Whether there is a file of this name that can be read anew: neither standard input nor a pipe can.
 pub(crate) fn lasts(rt: &HostRuntime, name: &str) -> bool {
     !is_standard_input(name) && size_of(rt, name).is_some()

@@ -25,17 +25,6 @@ impl Refusal {
         }
     }
 
-    /// An answer, or the refusal that is told.
-    ///
-    /// # Errors
-    /// Those of the answer.
-    pub fn or_answer(answer: Result<bool, MuError>) -> Result<bool, Refusal> {
-        match answer {
-            Ok(answer) => Ok(answer),
-            Err(error) => Err(Refusal::Told(error)),
-        }
-    }
-
     /// What the exit status goes by.
     pub fn into_error(self) -> MuError {
         match self {

@@ -1,7 +1,7 @@
 // The command `check`.
 
 use console::files::{Files, evidence_names};
-use console::input::{CountedInput, Input, open_both};
+use console::input::{CountedInput, open};
 use console::line::{Output, ProgressLine};
 use console::refusal::Refusal;
 use console::same::keep_apart;
@@ -24,36 +24,27 @@ pub fn run_check<T: Threads + Wait + Clock + Clone + Copy + Drop + Send + Sync +
 ) -> Result<bool, Refusal> {
     let names = evidence_names(rt, outputs.evidence)?;
     keep_apart(rt, request, outputs, names.as_ref()).map_err(MuError::Arguments)?;
-    let (system, formula) = open_both(rt, request.system, request.formula)?;
+    let system = open(rt, request.system)?;
+    let formula = open(rt, request.formula)?;
     let files = Files::new(rt, outputs.game, names, outputs.witness);
-    let answer = check_files(rt, threads, request, outputs, system, formula, &files);
-    files.outcome(answer)
-}
-
-/// Checks what both files hold, and shows what goes on.
-fn check_files<T: Threads + Wait + Clock + Clone + Copy + Drop + Send + Sync + 'static>(
-    rt: &HostRuntime,
-    threads: &T,
-    request: &Check<'_>,
-    outputs: &Outputs<'_>,
-    system: Input,
-    formula: Input,
-    files: &Files<'_>,
-) -> Result<bool, MuError> {
     let line = ProgressLine::new(*rt, threads, stats_of(request, outputs), None);
     let ticker = line.start();
+    let report = outputs.report;
     let answer = write_files(
         rt,
         threads,
         request,
         CountedInput::new(system, &line),
         CountedInput::new(formula, &line),
-        files,
-        outputs.report,
+        &files,
+        report,
         &line,
     );
     line.finish(ticker);
-    answer
+    match files.into_refusal() {
+        Some(refusal) => Err(refusal),
+        None => Ok(answer?),
+    }
 }
 
 /// What is told of a check.

@@ -16,7 +16,7 @@ use command_line::line::command;
 use commands::normal_text::normal_asked;
 use commands::replay_text::replay_asked;
 use commands::verify_text::{verify_both_text, verify_text};
-use console::input::{open, open_both};
+use console::input::open;
 use console::refusal::{NO_SOURCES, Refusal, Sources, tell};
 use console::same::keep_answer_apart;
 use engines::error::{ArgumentError, MuError};
@@ -110,21 +110,21 @@ fn words(rt: &HostRuntime) -> Result<Vec<String>, MuError> {
 fn run_normal(rt: &HostRuntime, request: &Normalize<'_>) -> Result<bool, Refusal> {
     let formula = open(rt, request.formula)?;
     let out = &mut io::writer(rt);
-    Refusal::or_answer(normal_asked(rt.alloc(), request, formula, out))
+    Ok(normal_asked(rt.alloc(), request, formula, out)?)
 }
 
 /// All files are opened, in the order of the command line, before the first is read.
 fn run_verify(rt: &HostRuntime, request: &Verify<'_>) -> Result<bool, Refusal> {
-    let (game, evidence) = open_both(rt, request.game, request.evidence)?;
+    let game = open(rt, request.game)?;
+    let evidence = open(rt, request.evidence)?;
     let out = &mut io::writer(rt);
-    let answer = match request.other {
-        None => verify_text(rt.alloc(), game, evidence, out),
+    match request.other {
+        None => Ok(verify_text(rt.alloc(), game, evidence, out)?),
         Some(other) => {
             let other = open(rt, other)?;
-            verify_both_text(rt.alloc(), game, evidence, other, out)
+            Ok(verify_both_text(rt.alloc(), game, evidence, other, out)?)
         }
-    };
-    Refusal::or_answer(answer)
+    }
 }
 
 /// All files are opened, in the order of the command line, before the first is read.
@@ -133,8 +133,9 @@ fn run_replay<T: Threads + Sync>(
     threads: &T,
     request: &Replay<'_>,
 ) -> Result<bool, Refusal> {
-    let (system, formula) = open_both(rt, request.system, request.formula)?;
+    let system = open(rt, request.system)?;
+    let formula = open(rt, request.formula)?;
     let schedule = open(rt, request.schedule)?;
     let out = &mut io::writer(rt);
-    Refusal::or_answer(replay_asked(threads, rt.alloc(), request, system, formula, schedule, out))
+    Ok(replay_asked(threads, rt.alloc(), request, system, formula, schedule, out)?)
 }

@@ -1,6 +1,6 @@
 // The command `why`.
 
-use console::input::{CountedInput, open_both};
+use console::input::{CountedInput, open};
 use console::line::{Output, ProgressLine};
 use console::refusal::Refusal;
 use console::stats::Stats;
@@ -16,7 +16,8 @@ pub fn run_why<T: Threads + Wait + Clock + Clone + Copy + Drop + Send + Sync + '
     threads: &T,
     request: &Why<'_>,
 ) -> Result<bool, Refusal> {
-    let (system, formula) = open_both(rt, request.system, request.formula)?;
+    let system = open(rt, request.system)?;
+    let formula = open(rt, request.formula)?;
     let line = ProgressLine::new(*rt, threads, Stats::Nothing, None);
     let ticker = line.start();
     let answer = tell_why(
@@ -29,5 +30,5 @@ pub fn run_why<T: Threads + Wait + Clock + Clone + Copy + Drop + Send + Sync + '
         &line,
     );
     line.finish(ticker);
-    Refusal::or_answer(answer)
+    Ok(answer?)
 }

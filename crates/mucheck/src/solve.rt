@@ -2,12 +2,11 @@
 
 use commands::solve_text::solve_asked;
 use console::files::{Files, evidence_names};
-use console::input::{CountedInput, Input, open};
+use console::input::{CountedInput, open};
 use console::line::{Output, ProgressLine};
 use console::refusal::Refusal;
 use console::same::keep_game_apart;
 use console::stats::{Activity, Stats};
-use engines::error::MuError;
 use engines::request::Solve;
 use std::sync::Wait;
 use std::thread::Threads;
@@ -23,18 +22,6 @@ pub fn run_solve<T: Threads + Wait + Clock + Clone + Copy + Drop + Send + Sync +
     keep_game_apart(rt, request, names.as_ref())?;
     let game = open(rt, request.game)?;
     let files = Files::new(rt, None, names, None);
-    let answer = solve_files(rt, threads, request, game, &files);
-    files.outcome(answer)
-}
-
-/// Solves the game that its file holds, and shows what goes on.
-fn solve_files<T: Threads + Wait + Clock + Clone + Copy + Drop + Send + Sync + 'static>(
-    rt: &HostRuntime,
-    threads: &T,
-    request: &Solve<'_>,
-    game: Input,
-    files: &Files<'_>,
-) -> Result<bool, MuError> {
     let stats = if request.stats {
         Stats::Stages
     } else {
@@ -43,6 +30,7 @@ fn solve_files<T: Threads + Wait + Clock + Clone + Copy + Drop + Send + Sync + '
     let line = ProgressLine::new(*rt, threads, stats, None);
     let ticker = line.start();
     line.step(Activity::ReadingGame);
+    let mut out = Output::new(*rt, &line);
     let answer = solve_asked(
         threads,
         rt.alloc(),
@@ -50,9 +38,12 @@ fn solve_files<T: Threads + Wait + Clock + Clone + Copy + Drop + Send + Sync + '
         CountedInput::new(game, &line),
         &mut files.even(),
         &mut files.odd(),
-        &mut Output::new(*rt, &line),
+        &mut out,
         &line,
     );
     line.finish(ticker);
-    answer
+    match files.into_refusal() {
+        Some(refusal) => Err(refusal),
+        None => Ok(answer?),
+    }
 }
