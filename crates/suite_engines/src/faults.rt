@@ -1,7 +1,7 @@
 // Reads and writes that fail, are cut short or are interrupted, as the engines tell them.
 
 use crate::common::{ample, holds, is_text, repeats, same, says};
-use crate::reports::refuses_as;
+use crate::engine_reports::refuses_as;
 use engines::engine::check_plain;
 use engines::error::MuError;
 use lts::put;

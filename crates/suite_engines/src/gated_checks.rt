@@ -2,7 +2,7 @@
 // The reports are those that were worked out by hand; the least system without a packed board is computed from the definition.
 
 use crate::common::{holds, repeats, ring_of, says};
-use crate::reports::{refuses_as, ring_report};
+use crate::engine_reports::{refuses_as, ring_report};
 use engines::engine::{check, check_gated};
 use engines::error::MuError;
 use engines::request::{BoardKind, Options};

@@ -4,13 +4,13 @@
 #[cfg(test)]
 mod common;
 #[cfg(test)]
+mod engine_reports;
+#[cfg(test)]
 mod faults;
 #[cfg(test)]
 mod gated_checks;
 #[cfg(test)]
 mod report_forms;
-#[cfg(test)]
-mod reports;
 #[cfg(test)]
 mod shown_checks;
 #[cfg(test)]

@@ -2,7 +2,7 @@
 // them are compared by `tests/answers`.
 
 use crate::common::{DEFAULTS, ample, holds, is_text, is_write_fault, says};
-use crate::reports::refuses_as;
+use crate::engine_reports::refuses_as;
 use engines::error::MuError;
 use engines::reasons::tell_why;
 use engines::request::Why;
