@@ -1,8 +1,7 @@
 // Who wins each vertex of a game, and evidence of it, by a guess of which a checker accepts evidence of both players.
 
-ghost use Rattle.std.specs.Prelude.{◌≡◌, ◌<◌, ◌≤◌, IfOk, IfSome, IsTrue, length};
+ghost use Rattle.std.specs.Prelude.{◌≡◌, ◌<◌, IfOk, IfSome, IsTrue, length};
 ghost use Rattle.calculus.specs.Meaning.{MarksOf};
-ghost use Rattle.certify.specs.Full.{IsFull};
 ghost use Rattle.certify.specs.Pair.{AreFull, AreOf};
 ghost use Rattle.game.specs.Wins.{Wins};
 ghost use Rattle.evidence.specs.Evidence.{has};

@@ -11,7 +11,6 @@ ghost use Rattle.command_line.specs.CommandLine.{
   AreOptions,
   AreOutputs,
   IsAskedFor,
-  IsCheck,
   IsCommand,
   IsFile,
   IsFileIfAny,

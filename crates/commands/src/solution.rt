@@ -1,6 +1,6 @@
 // Who wins each vertex of a game, and evidence of it: by a guess that a checker accepts, or else by the least progress tables.
 
-ghost use Rattle.std.specs.Prelude.{◌≡◌, ◌≤◌, IfErr, IfOk, Some};
+ghost use Rattle.std.specs.Prelude.{◌≡◌, IfErr, IfOk, Some};
 ghost use Rattle.std.specs.Arc.{arc_value};
 ghost use Rattle.certify.specs.Pair.{AreFull};
 ghost use Rattle.requests.specs.Solver.{FitsBoard, IsUnsolved};

@@ -1,6 +1,6 @@
 // The engine of the command `solve`.
 
-ghost use Rattle.std.specs.Prelude.{◌≡◌, ℕ, IfErr, false, true, List, Option, Some, Ok, Err, MatchResult};
+ghost use Rattle.std.specs.Prelude.{◌≡◌, ℕ, IfErr, false, true, List, Some, Ok, Err, MatchResult};
 ghost use Rattle.std.specs.Arc.{arc_value};
 ghost use Rattle.std.specs.Option.{is_some};
 ghost use Rattle.certify.specs.Pair.{AreFull};

@@ -1,6 +1,6 @@
 // The engines: from both texts to the report.
 
-ghost use Rattle.std.specs.Prelude.{◌≡◌, ◌∷◌, ◌++◌, [], ℕ, false, List, None, Some, IfErr, IfOk, IsTrue, MatchResult};
+ghost use Rattle.std.specs.Prelude.{◌≡◌, ◌∷◌, ◌++◌, ℕ, false, List, None, Some, IfErr, IfOk, MatchResult};
 ghost use Rattle.calculus.specs.Closed.{closed_formula};
 ghost use Rattle.requests.specs.declared.request.ReportForm.TheVariants.{Whole};
 ghost use Rattle.requests.specs.Causes.{HaveCauses};

@@ -1,6 +1,6 @@
 // Evidence that a player wins a set of vertices.
 
-ghost use Rattle.std.specs.Prelude.{◌≡◌, ◌<◌, ◌↔◌, None, Some, IsTrue, MatchOption, count_by, length};
+ghost use Rattle.std.specs.Prelude.{◌≡◌, ◌<◌, None, Some, MatchOption, count_by, length};
 ghost use Rattle.std.specs.Option.{is_some};
 ghost use Rattle.evidence.specs.Evidence.{IsEvidence, entry_at, has as has_entry};
 

@@ -1,6 +1,6 @@
 // The checker of evidence.
 
-ghost use Rattle.std.specs.Prelude.{◌≡◌, ◌<◌, ◌≤◌, ◌↔◌, ℕ, None, Some, Contains, IsTrue, count_by, length, nat_le};
+ghost use Rattle.std.specs.Prelude.{◌≡◌, ◌<◌, ◌≤◌, ◌↔◌, ℕ, None, Some, IsTrue, count_by, length, nat_le};
 ghost use Rattle.std.specs.List.{AllByRecursion};
 ghost use Rattle.game.specs.Game.{Game, Vertex, opponent, vertex};
 ghost use Rattle.game.specs.Wins.{IsOf, WinsBy};

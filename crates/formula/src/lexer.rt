@@ -1,14 +1,14 @@
 // Cuts a formula's text into tokens, blanks and comments.
 
-ghost use Rattle.std.specs.Prelude.{◌≡◌, ℕ, ◌+◌, ◌-◌, ◌<◌, ◌≤◌, Bool, true, false, not, List, [], ◌∷◌, length, take, drop, IsTrue, IsFalse, MatchOption};
-ghost use Rattle.std.specs.Prelude.{MatchResult, Option, slice_index, slice_get, if◌then◌else◌, ◌==◌, ◌&&◌, ◌||◌};
+ghost use Rattle.std.specs.Prelude.{◌≡◌, ◌+◌, ◌-◌, ◌<◌, true, false, not, length, drop, IsTrue, IsFalse, MatchOption};
+ghost use Rattle.std.specs.Prelude.{MatchResult, Option, slice_index, slice_get, ◌==◌, ◌&&◌, ◌||◌};
 ghost use Rattle.std.specs.List.{take_while, list_any};
 ghost use Rattle.std.specs.Str.{bytes_eq};
 ghost use Rattle.text.specs.Text.{is_letter as is_letter_of, is_name_byte as is_name_byte_of};
 ghost use Rattle.systems.specs.Label.{is_label_byte as is_label_byte_of};
 ghost use Rattle.grammar.specs.Token.{ChoiceSign, PlusSign, reserved_words, begins};
 ghost use Rattle.grammar.specs.Written.{token_of};
-ghost use Rattle.formula.specs.Cutting.{IsGap, IsFirst, IsSingle, IsDouble, IsNameToken, IsCut, IsLexed, IsDecidedBy, IsAtomless, IsSignless, BeginsReserved};
+ghost use Rattle.formula.specs.Cutting.{IsGap, IsFirst, IsSingle, IsDouble, IsNameToken, IsLexed, IsDecidedBy, IsAtomless, IsSignless, BeginsReserved};
 ghost use Rattle.formula.specs.Cutting.{IsTokenless, IsTokenRefusal, begins_gap, is_double, is_single, is_postfix_before};
 
 use crate::error::{FormulaError, FormulaFault};

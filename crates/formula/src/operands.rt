@@ -1,6 +1,6 @@
 // Finds the operands inside modalities that are no action formulas. Places are numbers of tokens.
 
-ghost use Rattle.std.specs.Prelude.{◌≡◌, ◌+◌, ◌<◌, ◌^◌, length};
+ghost use Rattle.std.specs.Prelude.{◌+◌, ◌<◌, ◌^◌, length};
 ghost use Rattle.grammar.specs.Syntax.{tokens, reg_tokens};
 ghost use Rattle.formula.specs.Fault.{operand_fault, reg_faults, operand_faults};
 ghost use Rattle.grammar.specs.Written.{reg_syntax, state_syntax};

@@ -1,6 +1,6 @@
 // Finds the variables that may not stand where they do. Places are numbers of tokens.
 
-ghost use Rattle.std.specs.Prelude.{◌≡◌, ℕ, ◌+◌, ◌<◌, ◌^◌, List, [], ◌∷◌, length, MatchOption, IsTrue};
+ghost use Rattle.std.specs.Prelude.{◌≡◌, ℕ, ◌+◌, ◌<◌, ◌^◌, [], ◌∷◌, length, MatchOption, IsTrue};
 ghost use Rattle.grammar.specs.Syntax.{tokens, reg_tokens};
 ghost use Rattle.formula.specs.Fault.{variable_fault as fault_of, variable_faults};
 ghost use Rattle.grammar.specs.Written.{reg_syntax, state_syntax, joined};

@@ -1,12 +1,12 @@
 // The parity game of a system and a normal form.
 
-ghost use Rattle.std.specs.Prelude.{◌≡◌, ◌+◌, ◌-◌, ◌*◌, ◌<◌, ◌≤◌, ◌++◌, ◌∷◌, [], Bool, false, length, map, slice_index_or, vec_len, IfOk, OnOk, OnErr, IfErr};
+ghost use Rattle.std.specs.Prelude.{◌≡◌, ◌+◌, ◌-◌, ◌*◌, ◌<◌, ◌≤◌, ◌++◌, ◌∷◌, [], false, length, map, slice_index_or, IfOk, OnOk, IfErr};
 ghost use Rattle.std.specs.List.{AllByRecursion, flat_map, range_with_len};
-ghost use Rattle.forms.specs.Form.{IsForm, IsNode};
+ghost use Rattle.forms.specs.Form.{IsNode};
 ghost use Rattle.forms.specs.View.{node_of};
 ghost use Rattle.forms.specs.Normal.{normal_nodes};
 ghost use Rattle.forms.specs.Taken.{AreSets, is_in};
-ghost use Rattle.game.specs.Game.{IsGame, greatest};
+ghost use Rattle.game.specs.Game.{greatest};
 ghost use Rattle.game.specs.Arena.{arena, rows, vertex_of, or_else, place};
 ghost use Rattle.game.specs.Parts.{vertices_of_range, two_sinks};
 ghost use Rattle.game.specs.Steps.{IsRowOf, picks, vertex_by};

@@ -1,7 +1,6 @@
 // Where the first word of a formula's text stands that is on no transition of the system.
 
 ghost use Rattle.std.specs.Prelude.{◌≡◌, ◌&&◌, false, map, IfOk};
-ghost use Rattle.formula.specs.Cutting.{IsLexed};
 ghost use Rattle.grammar.specs.Written.{token_of, bare_tokens};
 ghost use Rattle.hints.specs.Absent.{IsFirstAbsent, first_unknown, is_inside_after, is_unknown};
 ghost use Rattle.hints.specs.Noted.{knows};

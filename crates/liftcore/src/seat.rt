@@ -1,14 +1,12 @@
 // What is stored of one worker.
 
-ghost use Rattle.std.specs.Prelude.{◌≡◌, ◌<◌, ◌↔◌, ℕ, [], Contains, IfOk, IsTrue, List, MatchOption, false, length, slice_index};
+ghost use Rattle.std.specs.Prelude.{◌≡◌, ◌<◌, ◌↔◌, [], Contains, IfOk, IsTrue, MatchOption, false, length, slice_index};
 ghost use Rattle.std.specs.List.{AllByRecursion};
 ghost use Rattle.game.specs.Game.{IsAscending};
-ghost use Rattle.liftcore.specs.Core.{Holding, Idle, Owing, owing, with_note, without};
+ghost use Rattle.liftcore.specs.Core.{Holding, Idle, with_note};
 ghost use Rattle.liftcore.specs.Marks.{members};
-ghost use Rattle.liftcore.specs.Reading.{values_of};
 ghost use Rattle.liftcore.specs.Seats.{IsSeat, notes_of, worker_of};
 ghost use Rattle.liftcore.specs.Work.{AreOwed, CanRaise, CanRead, IsUnread, Owes};
-ghost use Rattle.progress.specs.Progs.{IsDemandOf};
 ghost use Rattle.progress.specs.Tables.{LiesBelow};
 
 use crate::marks::Marks;

@@ -1,6 +1,6 @@
 // The state of several workers, and the four events.
 
-ghost use Rattle.std.specs.Prelude.{◌≡◌, ◌↔◌, ℕ, IfOk, IsTrue, MatchOption};
+ghost use Rattle.std.specs.Prelude.{◌≡◌, ◌↔◌, IfOk, IsTrue, MatchOption};
 ghost use Rattle.liftcore.specs.Core.{Idle, is_quiet as is_quiet_core, starting_core};
 ghost use Rattle.liftcore.specs.Seats.{AreIdle, HasSeat, IsState, core_of, worker_of};
 ghost use Rattle.liftcore.specs.Step.{Step};

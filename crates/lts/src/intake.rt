@@ -1,6 +1,6 @@
 // The transitions of a text as they come, with labels numbered in the order in which they come.
 
-ghost use Rattle.std.specs.Prelude.{◌≡◌, ℕ, ◌+◌, ◌-◌, ◌^◌, ◌<◌, ◌≤◌, [], ◌∷◌, ◌++◌, List, length, IfOk, OnOk, IsTrue};
+ghost use Rattle.std.specs.Prelude.{◌≡◌, ◌+◌, ◌-◌, ◌^◌, ◌<◌, ◌≤◌, [], ◌∷◌, ◌++◌, List, length, IfOk, OnOk};
 ghost use Rattle.systems.specs.System.{Arrow};
 ghost use Rattle.lts.specs.Scan.{said};
 ghost use Rattle.systems.specs.Label.{texts};

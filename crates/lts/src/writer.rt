@@ -1,6 +1,6 @@
 // The writers of systems.
 
-ghost use Rattle.std.specs.Prelude.{◌≡◌, ◌<◌, ◌≤◌, ◌++◌, length, map, decimal};
+ghost use Rattle.std.specs.Prelude.{◌<◌, ◌≤◌, length, map};
 ghost use Rattle.std.specs.List.{flat_map};
 ghost use Rattle.systems.specs.System.{IsSystem};
 ghost use Rattle.systems.specs.Numbered.{IsInside, IsInside-prop, arrow_of, system_with};

@@ -1,6 +1,6 @@
 // Jumps of a table to what a search finds. What is not found, also for want of memory, is left to lifting.
 
-ghost use Rattle.std.specs.Prelude.{◌≡◌, ◌<◌, ◌≤◌, length};
+ghost use Rattle.std.specs.Prelude.{◌≡◌, ◌<◌, length};
 ghost use Rattle.game.specs.Game.{dual};
 ghost use Rattle.progress.specs.Measure.{components};
 ghost use Rattle.progress.specs.Progress.{LiesUnder};

@@ -1,6 +1,6 @@
 // The normal form of a formula.
 
-ghost use Rattle.std.specs.Prelude.{◌≡◌, ◌≤◌, max, IfOk, OnOk, IfErr};
+ghost use Rattle.std.specs.Prelude.{◌≡◌, ◌≤◌, IfOk, OnOk, IfErr};
 ghost use Rattle.calculus.specs.Closed.{closed_formula};
 ghost use Rattle.forms.specs.Tree.{node_count as count_of, depth, normal_form};
 ghost use Rattle.forms.specs.Nodes.{nodes, greatest_node_priority};

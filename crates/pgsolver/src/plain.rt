@@ -5,7 +5,7 @@ ghost use Rattle.std.specs.List.{prefix_len, list_all};
 ghost use Rattle.systems.specs.Label.{is_label_byte};
 ghost use Rattle.pgsolver.specs.Canon.{owner_digit};
 ghost use Rattle.pgsolver.specs.Scan.{line_said};
-ghost use Rattle.pgsolver.specs.Plain.{IsHeadThen, AddsCommas, IsTailThen, IsLineThen, name_then};
+ghost use Rattle.pgsolver.specs.Plain.{IsHeadThen, AddsCommas, IsTailThen, IsLineThen};
 ghost use Rattle.pgsolver.specs.Spelling.{IsName};
 
 use crate::limits::LONGEST_NAME;

@@ -1,6 +1,6 @@
 // The two shapes of lines, read token by token, so that no line is kept.
 
-ghost use Rattle.std.specs.Prelude.{◌≡◌, [], ◌∷◌, ◌++◌, IfOk, MatchResult, OnOk};
+ghost use Rattle.std.specs.Prelude.{◌≡◌, [], ◌∷◌, ◌++◌, MatchResult, OnOk};
 ghost use Rattle.text.specs.Cause.{HasCause};
 ghost use Rattle.text.specs.declared.error.ReadFault.TheVariants as reads;
 ghost use Rattle.text.specs.Lines.{IfKnown};

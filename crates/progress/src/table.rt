@@ -2,7 +2,7 @@
 
 ghost use Rattle.std.specs.Prelude.{◌≡◌, ◌≢◌, ◌<◌, ◌↔◌, ℕ, Contains, IsSome, IsTrue, Some, length, option_map, slice_set, IfOk};
 ghost use Rattle.std.specs.List.{AllByRecursion};
-ghost use Rattle.game.specs.Game.{IsGame, vertex};
+ghost use Rattle.game.specs.Game.{vertex};
 ghost use Rattle.progress.specs.Claim.{AreRaised, Claimed, IsGoodAt, IsGoodClaim, IsGoodFrom, Jumps, claimed_at, claimed_entry};
 ghost use Rattle.progress.specs.Laws.{IsBestSuccessor};
 ghost use Rattle.progress.specs.Measure.{Counts, IsProg, Top};

@@ -1,7 +1,6 @@
 // How numbers are compared at the vertices of one priority.
 
 ghost use Rattle.std.specs.Prelude.{◌≡◌, ◌↔◌, ◌/◌, ◌^◌, ◌<◌, ◌≤◌, ℕ, IsTrue};
-ghost use Rattle.game.specs.Game.{opponent};
 ghost use Rattle.game.specs.Wins.{IsOf};
 ghost use Rattle.rankings.specs.Ranking.{GoesOnWell, Ranking, winner_of};
 ghost use Rattle.rankings.specs.Slopes.{AreSlopes};

@@ -1,6 +1,6 @@
 // The parity game of a system and a formula.
 
-ghost use Rattle.std.specs.Prelude.{◌≡◌, ◌≤◌, None, MatchResult};
+ghost use Rattle.std.specs.Prelude.{None, MatchResult};
 ghost use Rattle.calculus.specs.Closed.{closed_formula};
 ghost use Rattle.requests.specs.Check.{ByGame, IsBeyond};
 ghost use Rattle.requests.specs.Check.{IsArenaOf};

@@ -1,6 +1,6 @@
 // A source and a sink that never fail. That none of them is told to have failed follows from the clauses of what reads and writes.
 
-ghost use Rattle.std.specs.Prelude.{◌≡◌, ◌≢◌, false, None, Option, List, ℕ, IfErr, IsOk};
+ghost use Rattle.std.specs.Prelude.{◌≢◌, false, None, IfErr, IsOk};
 ghost use Rattle.lts.specs.declared.error.AutError.TheVariants as errors;
 
 use crate::common::holds;
@@ -40,8 +40,6 @@ struct Taking {
 }
 
 impl Sink for Taking {
-    ghost use Rattle.text.specs.Taken.{Taken};
-
     ghost taken = { λ _. record { contents = None; failed = false } };
 
     fn write_some(&mut self, bytes: &[u8]) -> io::Result<usize> {

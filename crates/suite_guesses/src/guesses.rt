@@ -1,7 +1,7 @@
 // Guesses from systems and formulas at random: what is claimed of them, and what lifting alone leaves. That a guess changes no
 // answer is proved; that it is good, and so saves time, is not.
 
-ghost use Rattle.std.specs.Prelude.{◌≡◌, ◌<◌, ◌≤◌};
+ghost use Rattle.std.specs.Prelude.{◌≡◌, ◌<◌};
 
 use crate::common;
 use crate::common::{counted, holds, lifted_alone, opened, push_step, push_text, system_text};

@@ -1,7 +1,7 @@
 // How workers share what is to be lifted, of which no contract speaks. That they leave the least table is proved; how many turns they
 // take, and who takes them, is counted here by a gate. The opening table is what they begin with, so that all lifting is theirs.
 
-ghost use Rattle.std.specs.Prelude.{◌≡◌, ◌*◌, ◌<◌, ◌≤◌, length};
+ghost use Rattle.std.specs.Prelude.{◌≡◌, ◌*◌, ◌<◌, ◌≤◌};
 ghost use Rattle.std.specs.Arc.{arc_value};
 
 use crate::common::{

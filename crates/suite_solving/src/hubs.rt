@@ -1,7 +1,7 @@
 // A vertex to which very many others lead, and which rises again and again: what it gives workers to lift is bounded by how many vertices
 // there are.
 
-ghost use Rattle.std.specs.Prelude.{◌≡◌, ◌+◌, ◌<◌, ◌≤◌};
+ghost use Rattle.std.specs.Prelude.{◌≡◌, ◌+◌, ◌<◌};
 
 use crate::climbing_workers::{Turns, built, lifted_over_words};
 use crate::common::{holds, holds_of};

@@ -8,7 +8,7 @@ ghost use Rattle.evidence.specs.Best.{IsOddOf};
 ghost use Rattle.evidence.specs.Evidence.{IsGood, has};
 ghost use Rattle.requests.specs.Check.{ByGame, IsBeyond};
 ghost use Rattle.requests.specs.Solver.{FitsBoard, IsUnsolved};
-ghost use Rattle.verdicts.specs.Findings.{AreFindings, AreFoundBeside, AreOddsOf, ArePosed, way_in};
+ghost use Rattle.verdicts.specs.Findings.{AreFoundBeside, AreOddsOf, ArePosed, way_in};
 
 use crate::findings::{
     Findings, Helped, Posed, boxed, build_of, find_in, find_solved, solve_by_workers,

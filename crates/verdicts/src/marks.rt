@@ -1,6 +1,6 @@
 // The states of a system that satisfy a formula, of texts that are lent.
 
-ghost use Rattle.std.specs.Prelude.{◌≡◌, IfOk, IfErr, MatchResult, Some};
+ghost use Rattle.std.specs.Prelude.{IfOk, IfErr, MatchResult, Some};
 ghost use Rattle.std.specs.Arc.{arc_value};
 ghost use Rattle.calculus.specs.Closed.{closed_formula};
 ghost use Rattle.requests.specs.Check.{AreMarks, BySets, ByGame, IsArenaOf, IsBeyond};
