@@ -1,10 +1,10 @@
 -- What an argument more, and a command more, make of a table.
-use Rattle.std.proofs.Common.{◌≡◌, ◌∙◌, ap, ap₂, refl, subst, sym, ℕ, Bool, true, false, true≢false, not, ◌&&◌, List, Some, None}
+use Rattle.std.proofs.Common.{◌≡◌, ◌∙◌, ap, ap₂, refl, sym, ℕ, Bool, true, false, true≢false, not, ◌&&◌, List, Some, None}
 use Rattle.std.proofs.Common.{Result, Ok, Err}
 use Rattle.std.specs.Prelude.{IfOk, IsOkAnd, IsSomeAnd, Option}
 use Rattle.std.specs.Borrow.{Bor}
 use Rattle.clap.specs.Words.{is_simple}
-use Rattle.clap.specs.Words.{AddsArg, AddsSubcommand, App, Rule, Text, rule_of, with_rule, with_subcommand}
+use Rattle.clap.specs.Words.{AddsArg, AddsSubcommand, App, Rule, Text, app_of, rule_of, with_rule, with_subcommand}
 use Rattle.clap.specs.declared.builder.arg.Arg.{Arg}
 use Rattle.clap.specs.declared.builder.command.Command.{Command as Parser}
 use Rattle.clap.specs.declared.builder.range.ValueRange.{ValueRange}
@@ -69,10 +69,26 @@ adds_rule_if_ok old arg (Err e) table rule added has reads = tt
 adds_rule_if_ok (Err e) arg (Ok n) table rule added has reads = absurd added
 adds_rule_if_ok (Ok o) arg (Ok n) table rule added has reads = adds_rule o arg n table rule added has reads
 
--- what is read where there was memory
-pub given_ok : {E : Type 0} (r : Result Parser E) (parser : Parser) (table : App) → r ≡ Ok parser → IfOk r (ReadsBy table) → ReadsBy table parser
-given_ok (Ok p) parser table was reads = let same : p ≡ parser = cc in subst (λ (q : Parser). ReadsBy table q) same reads
-given_ok (Err e) parser table was reads = absurd (cc)
+-- several more, where there was memory for them
+pub adds_rules_if_ok : {E : Type 0} (old new : Result Parser E) (table : App) (rules : List Rule)
+    → IfOk new (λ n. IsOkAnd old (λ o. AddsRules o rules n)) → IfOk old (ReadsBy table) → IfOk new (ReadsBy (with_rules table rules))
+adds_rules_if_ok old (Err e) table rules adds reads = tt
+adds_rules_if_ok (Err e) (Ok n) table rules adds reads = absurd adds
+adds_rules_if_ok (Ok o) (Ok n) table rules adds reads = adds_rules o n table rules adds reads
+
+-- a parser reads by its own table, where there is one
+pub reads_itself : {E : Type 0} (first : Result Parser E) → IfOk first (λ o. IsOkAnd first (λ f. ReadsBy (app_of f) o))
+reads_itself (Ok f) = refl
+reads_itself (Err e) = tt
+
+-- one argument more, where what was begun with and all since had memory
+pub adds_after : {E : Type 0} (first old : Result Parser E) (arg : Arg) (new : Result Parser E) (table : Parser → App) (rule : Rule)
+    → IfOk new (λ n. IsOkAnd old (λ o. AddsArg o arg n)) → HasRule rule arg → IfOk old (λ o. IsOkAnd first (λ f. ReadsBy (table f) o))
+    → IfOk new (λ n. IsOkAnd first (λ f. ReadsBy (with_rule (table f) rule) n))
+adds_after first old arg (Err e) table rule added has reads = tt
+adds_after first (Err e) arg (Ok n) table rule added has reads = absurd added
+adds_after (Err e) (Ok o) arg (Ok n) table rule added has reads = absurd reads
+adds_after (Ok f) (Ok o) arg (Ok n) table rule added has reads = adds_rule o arg n (table f) rule added has reads
 
 third : (a b c d : Bool) → (a && (not b && (not c && d))) ≡ true → c ≡ false
 third true false false d h = refl

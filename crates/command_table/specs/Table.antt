@@ -12,6 +12,10 @@ use Rattle.clap.specs.declared.builder.value_parser.ValueParser.TheVariants as v
 abbrev pub file_rule : Text → Rule
 file_rule id = record (new_rule id) { required = true }
 
+-- the files of a system and a formula
+abbrev pub text_rules : List Rule
+text_rules = file_rule (codes "SYSTEM") ∷ file_rule (codes "FORMULA") ∷ []
+
 -- files, by their place among the words: one at least
 abbrev pub files_rule : Text → Rule
 files_rule id = record (file_rule id) { range = Some (record { start_inclusive = 1; end_inclusive = usize_max }) }
@@ -78,12 +82,12 @@ priorities_rule rules = choice_rule (codes "priorities") rules
 
 abbrev pub check_rules : (rules boards answers : Choice) → List Rule
 check_rules rules boards answers =
-    file_rule (codes "SYSTEM") ∷ file_rule (codes "FORMULA") ∷ flag_rule (codes "plain") ∷ flag_rule (codes "strict")
-    ∷ flag_rule (codes "stats") ∷ (report_rules answers ++ (priorities_rule rules ∷ (lifting_rules boards ++ output_rules)))
+    text_rules ++ (flag_rule (codes "plain") ∷ flag_rule (codes "strict") ∷ flag_rule (codes "stats")
+    ∷ (report_rules answers ++ (priorities_rule rules ∷ (lifting_rules boards ++ output_rules))))
 
 abbrev pub why_rules : (rules boards : Choice) → List Rule
 why_rules rules boards =
-    file_rule (codes "SYSTEM") ∷ file_rule (codes "FORMULA") ∷ flag_rule (codes "strict") ∷ priorities_rule rules ∷ lifting_rules boards
+    text_rules ++ (flag_rule (codes "strict") ∷ priorities_rule rules ∷ lifting_rules boards)
 
 abbrev pub table_rules : (rules boards : Choice) → List Rule
 table_rules rules boards =
@@ -100,7 +104,7 @@ abbrev pub verify_rules : List Rule
 verify_rules = file_rule (codes "GAME") ∷ file_rule (codes "EVIDENCE") ∷ new_rule (codes "OTHER") ∷ []
 
 abbrev pub replay_rules : List Rule
-replay_rules = file_rule (codes "SYSTEM") ∷ file_rule (codes "FORMULA") ∷ file_rule (codes "SCHEDULE") ∷ workers_rule ∷ []
+replay_rules = text_rules ++ (file_rule (codes "SCHEDULE") ∷ workers_rule ∷ [])
 
 abbrev pub explain_rules : List Rule
 explain_rules = file_rule (codes "CODE") ∷ []

@@ -24,6 +24,7 @@ ghost use Rattle.command_table.specs.Table.{
   solve_rules,
   states_rule,
   table_rules,
+  text_rules,
   value_rule,
   verify_rules,
   why_rules,
@@ -299,15 +300,14 @@ fn check_parser<'a>(
     ensures { IfOk result (ReadsBy (command_app (codes "check") (check_rules rules.entry boards.entry answers.entry))) }
 {
     let parser = Ok(described(alloc, "check", CHECK_ABOUT, CHECK_AFTER));
-    let parser = with_arg(parser, file(alloc, SYSTEM, SYSTEM_HELP));
-    let parser = with_arg(parser, file(alloc, FORMULA, FORMULA_HELP));
+    let parser = with_texts(alloc, parser);
     let parser = with_arg(parser, flag(alloc, PLAIN, PLAIN_HELP));
     let parser = with_arg(parser, flag(alloc, STRICT, STRICT_HELP));
     let parser = with_arg(parser, flag(alloc, STATS, STATS_HELP));
-    let parser = with_report(alloc, parser?, answers);
+    let parser = with_report(alloc, parser, answers);
     let parser = with_arg(parser, rule(alloc, rules));
-    let parser = with_workers(alloc, parser?, boards);
-    with_outputs(alloc, parser?)
+    let parser = with_workers(alloc, parser, boards);
+    with_outputs(alloc, parser)
 }
 
 fn why_parser<'a>(
@@ -318,11 +318,10 @@ fn why_parser<'a>(
     ensures { IfOk result (ReadsBy (command_app (codes "why") (why_rules rules.entry boards.entry))) }
 {
     let parser = Ok(described(alloc, "why", WHY_ABOUT, WHY_AFTER));
-    let parser = with_arg(parser, file(alloc, SYSTEM, SYSTEM_HELP));
-    let parser = with_arg(parser, file(alloc, FORMULA, FORMULA_HELP));
+    let parser = with_texts(alloc, parser);
     let parser = with_arg(parser, flag(alloc, STRICT, STRICT_HELP));
     let parser = with_arg(parser, rule(alloc, rules));
-    with_workers(alloc, parser?, boards)
+    with_workers(alloc, parser, boards)
 }
 
 fn table_parser<'a>(
@@ -338,7 +337,7 @@ fn table_parser<'a>(
     let parser = with_arg(parser, flag(alloc, PLAIN, PLAIN_HELP));
     let parser = with_arg(parser, flag(alloc, STRICT, STRICT_HELP));
     let parser = with_arg(parser, rule(alloc, rules));
-    with_workers(alloc, parser?, boards)
+    with_workers(alloc, parser, boards)
 }
 
 fn normal_parser<'a>(alloc: Global, rules: &'a [&'a str]) -> Result<Parser<'a>, AllocError>
@@ -356,7 +355,7 @@ fn solve_parser<'a>(alloc: Global, boards: &'a [&'a str]) -> Result<Parser<'a>, 
     let parser = with_arg(parser, file(alloc, GAME, GAME_HELP));
     let parser = with_arg(parser, evidence_files(alloc));
     let parser = with_arg(parser, flag(alloc, STATS, STATS_HELP));
-    with_workers(alloc, parser?, boards)
+    with_workers(alloc, parser, boards)
 }
 
 fn verify_parser<'a>(alloc: Global) -> Result<Parser<'a>, AllocError>
@@ -372,8 +371,7 @@ fn replay_parser<'a>(alloc: Global) -> Result<Parser<'a>, AllocError>
     ensures { IfOk result (ReadsBy (command_app (codes "replay") replay_rules)) }
 {
     let parser = Ok(described(alloc, "replay", REPLAY_ABOUT, REPLAY_AFTER));
-    let parser = with_arg(parser, file(alloc, SYSTEM, SYSTEM_HELP));
-    let parser = with_arg(parser, file(alloc, FORMULA, FORMULA_HELP));
+    let parser = with_texts(alloc, parser);
     let parser = with_arg(parser, file(alloc, SCHEDULE, SCHEDULE_HELP));
     with_arg(parser, workers(alloc, SEATS_HELP))
 }
@@ -491,15 +489,26 @@ fn evidence_files<'a>(alloc: Global) -> Arg<'a>
     option_with_value(alloc, EVIDENCE_FILES, "PATH").help(EVIDENCE_FILES_HELP)
 }
 
+/// The files of a system and a formula.
+fn with_texts<'a>(
+    alloc: Global,
+    parser: Result<Parser<'a>, AllocError>,
+) -> Result<Parser<'a>, AllocError>
+    ensures { IfOk result (λ new. IsOkAnd parser.entry (λ old. AddsRules old text_rules new)) }
+{
+    let parser = with_arg(parser, file(alloc, SYSTEM, SYSTEM_HELP));
+    with_arg(parser, file(alloc, FORMULA, FORMULA_HELP))
+}
+
 /// In which form the report is written.
 fn with_report<'a>(
     alloc: Global,
-    parser: Parser<'a>,
+    parser: Result<Parser<'a>, AllocError>,
     answers: &'a [&'a str],
 ) -> Result<Parser<'a>, AllocError>
-    ensures { IfOk result (AddsRules parser.entry (report_rules answers.entry)) }
+    ensures { IfOk result (λ new. IsOkAnd parser.entry (λ old. AddsRules old (report_rules answers.entry) new)) }
 {
-    let parser = with_arg(Ok(parser), quiet(alloc));
+    let parser = with_arg(parser, quiet(alloc));
     let parser = with_arg(parser, flag(alloc, SUMMARY, SUMMARY_HELP));
     let parser = with_arg(parser, states(alloc, answers));
     with_arg(parser, limit(alloc))
@@ -508,22 +517,25 @@ fn with_report<'a>(
 /// Workers, shards and board.
 fn with_workers<'a>(
     alloc: Global,
-    parser: Parser<'a>,
+    parser: Result<Parser<'a>, AllocError>,
     boards: &'a [&'a str],
 ) -> Result<Parser<'a>, AllocError>
-    ensures { IfOk result (AddsRules parser.entry (lifting_rules boards.entry)) }
+    ensures { IfOk result (λ new. IsOkAnd parser.entry (λ old. AddsRules old (lifting_rules boards.entry) new)) }
 {
-    let parser = with_arg(Ok(parser), workers(alloc, WORKERS_HELP));
+    let parser = with_arg(parser, workers(alloc, WORKERS_HELP));
     let parser = with_arg(parser, shards(alloc));
     with_arg(parser, board(alloc, boards))
 }
 
 /// Where the game, the evidence and the witness go.
-fn with_outputs<'a>(alloc: Global, parser: Parser<'a>) -> Result<Parser<'a>, AllocError>
-    ensures { IfOk result (AddsRules parser.entry output_rules) }
+fn with_outputs<'a>(
+    alloc: Global,
+    parser: Result<Parser<'a>, AllocError>,
+) -> Result<Parser<'a>, AllocError>
+    ensures { IfOk result (λ new. IsOkAnd parser.entry (λ old. AddsRules old output_rules new)) }
 {
     let parser = with_arg(
-        Ok(parser),
+        parser,
         option_with_value(alloc, GAME_FILE, "FILE").help(GAME_FILE_HELP),
     );
     let parser = with_arg(parser, evidence_files(alloc));

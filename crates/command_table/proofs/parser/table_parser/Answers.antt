@@ -1,7 +1,6 @@
 use Rattle.std.proofs.Common.{Ok}
-use Rattle.std.proofs.lemmas.Result.{IfOk-weaker}
 use Rattle.command_table.specs.Table.{lifting_rules}
-use Rattle.command_table.proofs.Tables.{adds_rule_if_ok, adds_rules, given_ok}
+use Rattle.command_table.proofs.Tables.{adds_rule_if_ok, adds_rules_if_ok}
 use Rattle.command_table.proofs.parser.table_parser.Goals as goal
 
 pub returns : goal.returns
@@ -11,4 +10,4 @@ returns c =
     let plain = adds_rule_if_ok _ _ _ _ _ c.with_arg-parser-3.ensures c.flag.ensures formulas in
     let strict = adds_rule_if_ok _ _ _ _ _ c.with_arg-parser-4.ensures c.flag-2.ensures plain in
     let rule = adds_rule_if_ok _ _ _ _ _ c.with_arg-parser-5.ensures c.rule.ensures strict in
-    IfOk-weaker c.with_workers.result _ _ (λ parser adds. adds_rules _ _ _ (lifting_rules c.args.boards) adds (given_ok _ _ _ c.in_ok-parser.was rule)) c.with_workers.ensures
+    adds_rules_if_ok _ _ _ (lifting_rules c.args.boards) c.with_workers.ensures rule

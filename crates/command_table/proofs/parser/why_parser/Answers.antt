@@ -1,13 +1,11 @@
 use Rattle.std.proofs.Common.{Ok}
-use Rattle.std.proofs.lemmas.Result.{IfOk-weaker}
-use Rattle.command_table.specs.Table.{lifting_rules}
-use Rattle.command_table.proofs.Tables.{adds_rule_if_ok, adds_rules, given_ok}
+use Rattle.command_table.specs.Table.{lifting_rules, text_rules}
+use Rattle.command_table.proofs.Tables.{adds_rule_if_ok, adds_rules_if_ok}
 use Rattle.command_table.proofs.parser.why_parser.Goals as goal
 
 pub returns : goal.returns
 returns c =
-    let system = adds_rule_if_ok (Ok c.described.result) _ _ _ _ c.with_arg-parser.ensures c.file.ensures c.described.ensures in
-    let formula = adds_rule_if_ok _ _ _ _ _ c.with_arg-parser-2.ensures c.file-2.ensures system in
-    let strict = adds_rule_if_ok _ _ _ _ _ c.with_arg-parser-3.ensures c.flag.ensures formula in
-    let rule = adds_rule_if_ok _ _ _ _ _ c.with_arg-parser-4.ensures c.rule.ensures strict in
-    IfOk-weaker c.with_workers.result _ _ (λ parser adds. adds_rules _ _ _ (lifting_rules c.args.boards) adds (given_ok _ _ _ c.in_ok-parser.was rule)) c.with_workers.ensures
+    let files = adds_rules_if_ok (Ok c.described.result) _ _ text_rules c.with_texts-parser.ensures c.described.ensures in
+    let strict = adds_rule_if_ok _ _ _ _ _ c.with_arg-parser.ensures c.flag.ensures files in
+    let rule = adds_rule_if_ok _ _ _ _ _ c.with_arg-parser-2.ensures c.rule.ensures strict in
+    adds_rules_if_ok _ _ _ (lifting_rules c.args.boards) c.with_workers.ensures rule
