@@ -2,7 +2,7 @@
 
 ghost use Rattle.std.specs.Prelude.{◌≡◌};
 
-use crate::common::{failing, game_of, has_all, has_taken, holds, push_text, repeated, same, slow};
+use crate::common::{failing, game_of, has_all, has_taken, holds, repeated, same, slow};
 use evidence::error::EvidenceError;
 use evidence::evidence::Evidence;
 use evidence::make::{even_evidence, odd_evidence};
@@ -26,8 +26,6 @@ const OFTEN_A: &str = "nu X. mu Y. (<a>X || <b>Y)";
 const EVEN: &str =
     "evidence even\n0 0 (0)\n2 3 (0)\n3 4 (1)\n4 5 (0)\n5 13 (0)\n6 2 (0)\n8 3 (1)\n9 10 (0)\n10 11 (2)\n11 14 (1)\n13 9 (0)\n14 8 (1)\n15 10 (2)\n";
 
-const ODD: &str = "evidence odd\n1 - (0,0)\n7 - (0,1)\n12 - (0,1)\n";
-
 // Worked example: the evidence of `<a>true` on the ring.
 const EVEN_OF_STEP: &str = "evidence even\n0 0 (0)\n2 5 (0)\n3 0 (0)\n5 0 (0)\n";
 
@@ -42,23 +40,6 @@ fn read(rt: &(impl Abort + AllocGlobal), game: &Game, text: &str) -> Evidence
     ensures { result.game ≡ game.now }
 {
     read_evidence(rt.alloc(), text.as_bytes(), game).expect(rt, "memory")
-}
-
-fn push_lines(rt: &impl Abort, changed: &mut String, text: &str, line: &str, other: &str) {
-    for old in text.lines() {
-        let new = if old == line { other } else { old };
-        if !new.is_empty() {
-            push_text(rt, changed, new);
-            push_text(rt, changed, "\n");
-        }
-    }
-}
-
-// The text with another line in the place of one, or without it.
-fn with_line(rt: &(impl Abort + AllocGlobal), text: &str, line: &str, other: &str) -> String {
-    let mut changed = String::new(rt.alloc());
-    push_lines(rt, &mut changed, text, line, other);
-    changed
 }
 
 // What a checker says of evidence, which was read of a text.
@@ -82,38 +63,6 @@ fn says(rt: &(impl Abort + AllocGlobal), game: &Game, text: &str, wanted: &str) 
     let evidence = read(rt, game, text);
     is_judged(rt, game, &evidence, text, wanted);
     drop(evidence);
-}
-
-// The same of the example's text with another line in the place of one.
-fn says_with(rt: &(impl Abort + AllocGlobal), game: &Game, line: &str, other: &str, wanted: &str) {
-    let text = with_line(rt, EVEN, line, other);
-    says(rt, game, text.as_str(), wanted);
-    drop(text);
-}
-
-// A line of Even's evidence, what stands in its place, and what the checker says then. In the last one no rank is the least.
-static CHANGED: [(&str, &str, &str); 11] = [
-    ("", "", "verified even 13 of 16\n"),
-    ("5 13 (0)", "5 9 (0)", "refused C1 at 5\n"),
-    ("5 13 (0)", "5 - (0)", "refused C1 at 5\n"),
-    ("14 8 (1)", "", "refused C2 at 11\n"),
-    ("10 11 (2)", "10 11 (1)", "refused C3 at 10\n"),
-    ("10 11 (2)", "10 11 (3)", "refused C3 at 15\n"),
-    ("5 13 (0)", "5 13 (1)", "refused C3 at 4\n"),
-    ("2 3 (0)", "2 3 (3)", "refused C3 at 6\n"),
-    ("0 0 (0)", "0 0 (5)", "verified even 13 of 16\n"),
-    ("0 0 (0)", "0 0 (16777216)", "verified even 13 of 16\n"),
-    ("15 10 (2)", "15 10 (2)\n1 1 (0)", "refused C3 at 1\n"),
-];
-
-#[test]
-fn verdicts_of_the_example(rt: HostRuntime) {
-    let game = game_of_formula(&rt, OFTEN_A);
-    for (line, other, wanted) in &CHANGED {
-        says_with(&rt, &game, line, other, wanted);
-    }
-    says(&rt, &game, ODD, "verified odd 3 of 16\n");
-    drop(game);
 }
 
 #[test]
@@ -188,14 +137,6 @@ fn is_made_of_odd(rt: &(impl Abort + AllocGlobal), game: &Game, wanted: &str) {
 }
 
 // What is made of each player is the worked text.
-#[test]
-fn made_evidence_is_written(rt: HostRuntime) {
-    let game = game_of_formula(&rt, OFTEN_A);
-    is_made_of_even(&rt, &game, EVEN);
-    is_made_of_odd(&rt, &game, ODD);
-    drop(game);
-}
-
 #[test]
 fn made_evidence_of_a_step_is_written(rt: HostRuntime) {
     let game = game_of_formula(&rt, "<a>true");
@@ -273,15 +214,6 @@ fn faults_of_texts(rt: HostRuntime) {
         refuses(&rt, &game, text, wanted);
     }
     drop(game);
-}
-
-#[test]
-fn evidence_of_the_other_player_is_refused(rt: HostRuntime) {
-    let game = game_of_formula(&rt, OFTEN_A);
-    let other = with_line(&rt, EVEN, "evidence even", "evidence odd");
-    refuses(&rt, &game, other.as_str(), "E2 at line 2");
-    drop(game);
-    drop(other);
 }
 
 // Lines that have one part 300 times, and how they are refused. A number of any length is a number.
@@ -390,35 +322,6 @@ fn says_of_two(
     are_judged(rt, game, &first, &second, wanted);
     drop(second);
     drop(first);
-}
-
-#[test]
-fn two_texts(rt: HostRuntime) {
-    let game = game_of_formula(&rt, OFTEN_A);
-    let all = "verified both even 13 odd 3 of 16\n";
-    says_of_two(&rt, &game, EVEN, ODD, all);
-    says_of_two(&rt, &game, ODD, EVEN, all);
-    says_of_two(&rt, &game, EVEN, EVEN, "refused C4\n");
-    drop(game);
-}
-
-#[test]
-fn two_texts_without_the_first_entry(rt: HostRuntime) {
-    let game = game_of_formula(&rt, OFTEN_A);
-    let gone = with_line(&rt, ODD, "1 - (0,0)", "");
-    says_of_two(&rt, &game, EVEN, gone.as_str(), "refused second C2 at 7\n");
-    says_of_two(&rt, &game, gone.as_str(), EVEN, "refused first C2 at 7\n");
-    drop(game);
-    drop(gone);
-}
-
-#[test]
-fn two_texts_without_another_entry(rt: HostRuntime) {
-    let game = game_of_formula(&rt, OFTEN_A);
-    let left = with_line(&rt, ODD, "7 - (0,1)", "");
-    says_of_two(&rt, &game, EVEN, left.as_str(), "refused C5 at 7\n");
-    drop(game);
-    drop(left);
 }
 
 #[test]

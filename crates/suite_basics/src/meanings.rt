@@ -2,11 +2,11 @@
 // mCRL2 manual, worked out by hand.
 
 use crate::common;
-use crate::common::{holds, push_text, repeated, same};
+use crate::common::{push_text, same};
 use calculus::closed::Closed;
 use lts::Lts;
 use meaning::plain::plain_states;
-use samples::texts::{RING, ring};
+use samples::texts::RING;
 use std::process::Abort;
 
 // To its second state by `a`, and there round by `b`.
@@ -90,43 +90,4 @@ fn formulas_hold_where_they_are_to(rt: HostRuntime) {
     for (system, formula, wanted) in &ROWS {
         is_marked(&rt, system, formula, wanted);
     }
-}
-
-// A beginning, a piece and how often it stands, and an end; and a mark for each state of the ring. The second has 31
-// binders, of which the innermost is `mu`; the fourth 120, none of whose variables stands in its formula; the last one 60,
-// each of which says that a `b` can be reached, or that what stands inside holds, which is closed.
-static LARGE: [(&str, &str, usize, &str, &str); 5] = [
-    ("", "!", 256, "true", "yy"),
-    ("mu X. ", "nu X. mu X. ", 15, "true", "yy"),
-    ("<a", " +", 40, ">true", "yn"),
-    ("", "mu X. <a*>nu X. <a*>", 60, "true", "yy"),
-    ("", "mu X. <true>X || ", 60, "<b>true", "yy"),
-];
-
-#[test]
-fn large_formulas_hold_too(rt: HostRuntime) {
-    for (head, part, times, tail, wanted) in &LARGE {
-        let formula = repeated(&rt, head, part, *times, tail);
-        is_marked(&rt, RING, formula.as_str(), wanted);
-    }
-}
-
-// Whether all marks are `y`.
-fn are_all(marks: &[u8]) -> bool {
-    for mark in marks {
-        if *mark != b'y' {
-            return false;
-        }
-    }
-    true
-}
-
-#[test]
-fn a_long_ring_leads_back(rt: HostRuntime) {
-    let text = ring(rt.alloc(), 2500).expect(&rt, "memory");
-    let shown = marks(&rt, text.as_str(), "[true*]<true*>(<a>true)");
-    holds!(&rt; shown.len() == 2500);
-    holds!(&rt; are_all(shown.as_bytes()));
-    drop(shown);
-    drop(text);
 }

@@ -1,11 +1,7 @@
-// The texts of normal forms, and their first lines by either rule of priorities. Worked examples.
+// The texts of normal forms: worked examples. Their first lines by either rule of priorities are tried by the program, in tests/commands.
 
-use crate::common::{form, formula, has_taken, holds, holds_for, repeated, same};
-use calculus::closed::Closed;
+use crate::common::{form, has_taken, holds_for};
 use forms::form::Normal;
-use forms::priorities::Priorities;
-use normal::error::NormalError;
-use normal::make::normal_with;
 use normal::printer::print_normal;
 use samples::writers::{AMPLE, Narrow};
 use std::process::Abort;
@@ -45,109 +41,5 @@ fn is_written_of(rt: &(impl Abort + AllocGlobal), text: &str, wanted: &str) {
 fn texts_are_written_in_full(rt: HostRuntime) {
     for (text, wanted) in &TEXTS {
         is_written_of(&rt, text, wanted);
-    }
-}
-
-// The text of a normal form.
-fn text_of(rt: &(impl Abort + AllocGlobal), form: &Normal) -> Vec<u8> {
-    let mut out = Narrow::new(rt.alloc(), AMPLE, AMPLE);
-    holds!(rt; print_normal(form, &mut out).is_ok());
-    out.taken
-}
-
-// Whether this is the first line of a text.
-fn is_first_line(text: &[u8], line: &str) -> bool {
-    let end = line.len();
-    text.starts_with(line.as_bytes()) && end < text.len() && text[end] == b'\n'
-}
-
-fn has_first_line(rt: &(impl Abort + AllocGlobal), form: &Normal, wanted: &str) {
-    let text = text_of(rt, form);
-    holds!(rt; is_first_line(text.as_slice(), wanted), wanted);
-    drop(text);
-}
-
-fn has_refusal(rt: &(impl Abort + AllocGlobal), error: &NormalError, wanted: &str) {
-    let told = error.to_string(rt.alloc()).expect(rt, "memory");
-    same(rt, "refusal", told.as_str(), wanted);
-    drop(told);
-}
-
-// The first line of the text, or the refusal, is this.
-fn begins(rt: &(impl Abort + AllocGlobal), formula: &Closed, rule: Priorities, wanted: &str) {
-    match normal_with(rt.alloc(), formula, rule) {
-        Ok(form) => {
-            has_first_line(rt, &form, wanted);
-            drop(form);
-        }
-        Err(error) => has_refusal(rt, &error, wanted),
-    }
-}
-
-fn begins_by_rules(rt: &(impl Abort + AllocGlobal), text: &str, nested: &str, dependent: &str) {
-    let formula = formula(rt, text);
-    begins(rt, &formula, Priorities::Nested, nested);
-    begins(rt, &formula, Priorities::Dependent, dependent);
-    drop(formula);
-}
-
-// A beginning, a piece and how often it stands, and an end; the first line by the nested rule, and by the dependent one.
-static LINES: [(&str, &str, usize, &str, &str, &str); 7] = [
-    (
-        "<c><c><c><",
-        "(a+b).",
-        9,
-        "(a+b)>true",
-        "nodes 4096 priority 0 depth 0",
-        "nodes 4096 priority 0 depth 0",
-    ),
-    ("<c><c><c><c><", "(a+b).", 9, "(a+b)>true", "N1", "N1"),
-    (
-        "mu X. ",
-        "nu X. mu X. ",
-        15,
-        "true",
-        "nodes 32 priority 31 depth 31",
-        "nodes 32 priority 1 depth 31",
-    ),
-    (
-        "nu X. mu X. ",
-        "nu X. mu X. ",
-        15,
-        "true",
-        "N2",
-        "nodes 33 priority 1 depth 32",
-    ),
-    (
-        "[true*]<true*>(<a>true)",
-        "",
-        0,
-        "",
-        "nodes 10 priority 2 depth 2",
-        "nodes 10 priority 1 depth 2",
-    ),
-    (
-        "nu X. mu Y. (<a>X || <b>Y)",
-        "",
-        0,
-        "",
-        "nodes 7 priority 2 depth 2",
-        "nodes 7 priority 2 depth 2",
-    ),
-    (
-        "nu X. (<a>X && mu Y. <b>Y)",
-        "",
-        0,
-        "",
-        "nodes 7 priority 2 depth 2",
-        "nodes 7 priority 1 depth 2",
-    ),
-];
-
-#[test]
-fn first_lines_are_those_of_the_rule(rt: HostRuntime) {
-    for (head, part, times, tail, nested, dependent) in &LINES {
-        let text = repeated(&rt, head, part, *times, tail);
-        begins_by_rules(&rt, text.as_str(), nested, dependent);
     }
 }

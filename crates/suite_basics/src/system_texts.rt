@@ -1,7 +1,7 @@
 // Texts of systems and what is wrong with them: the Aldebaran format of the mCRL2 manual, with its limits and codes as
 // docs/FORMATS.md has them. States and transitions were counted by hand.
 
-use crate::common::{failing, holds, is_either, repeated, same, slow, system};
+use crate::common::{failing, holds, is_either, same, slow, system};
 use lts::{Lts, Transition, read_aut};
 use samples::readers::Halting;
 use samples::texts::RING;
@@ -74,38 +74,6 @@ fn shows(rt: &(impl Abort + AllocGlobal), text: &str, wanted: &str) {
 fn texts_are_read(rt: HostRuntime) {
     for (text, wanted) in &TEXTS {
         shows(&rt, text, wanted);
-    }
-}
-
-// A label of so many bytes.
-fn shows_label(rt: &(impl Abort + AllocGlobal), length: usize, wanted: &str) {
-    let text = repeated(rt, "des (0,1,1)\n(0,\"", "a", length, "\",0)\n");
-    shows(rt, text.as_str(), wanted);
-    drop(text);
-}
-
-#[test]
-fn labels_have_at_most_4096_bytes(rt: HostRuntime) {
-    shows_label(&rt, 4096, "1 0 1 1");
-    shows_label(&rt, 4097, "A7 at line 2");
-}
-
-// Heads, a part that is repeated a hundred thousand times, tails, and what is shown.
-static LONG_LINES: [(&str, &str, &str, &str); 7] = [
-    ("des (0,1,2)\n", " ", "(0,\"a\",1)\n", "2 0 1 1"),
-    ("des (0,1,2)\n(0,\"a\"", "\t", ",1)\n", "2 0 1 1"),
-    ("des (0,1,2)\n(0,\"a\",1)", " ", "\r\n", "2 0 1 1"),
-    ("des (0,1,2)\n(0,\"", "a", "\",1)\n", "A7 at line 2"),
-    ("des (0,1,2)\n(0,\"", "a", "\",1\n", "A2 at line 2"),
-    ("des (0,1,2)\n(", "1", ",\"a\",1)\n", "A4 at line 2"),
-    ("des (0,1,", "9", ")\n", "A3 at line 1"),
-];
-
-#[test]
-fn long_lines_are_read(rt: HostRuntime) {
-    for (head, part, tail, wanted) in &LONG_LINES {
-        let text = repeated(&rt, head, part, 100_000, tail);
-        is_shown(&rt, part, text.as_bytes(), wanted);
     }
 }
 

@@ -16,7 +16,7 @@ use std::process::Abort;
 use text::ReadFault;
 
 // The game of `<a>true` on two states, of which the first leads to the second by a, and the second to the first by b.
-pub static STEP_ROWS: [Row; 6] = [
+pub(crate) static STEP_ROWS: [Row; 6] = [
     (Player::Even, 0, &[0]),
     (Player::Even, 1, &[1]),
     (Player::Even, 0, &[5]),
@@ -26,7 +26,7 @@ pub static STEP_ROWS: [Row; 6] = [
 ];
 
 // The same of `<a><a>true`.
-pub static TWO_STEPS: [Row; 8] = [
+pub(crate) static TWO_STEPS: [Row; 8] = [
     (Player::Even, 0, &[0]),
     (Player::Even, 1, &[1]),
     (Player::Even, 0, &[6]),
@@ -95,36 +95,11 @@ fn comes_to(rt: &(impl Abort + AllocGlobal), game: &Game, schedule: &str, first:
     }
 }
 
-// A schedule of two workers is refused so.
-fn is_refused(rt: &(impl Abort + AllocGlobal), game: &Game, schedule: &str, wanted: &str) {
-    let read = read_schedule(rt.alloc(), schedule.as_bytes(), 2, game.vertices());
-    match &read {
-        Ok(_) => holds!(rt; false, schedule),
-        Err(error) => is_told_as(rt, *error, wanted),
-    }
-}
-
-// This is told of a refusal.
-fn is_told_as(rt: &(impl Abort + AllocGlobal), error: ScheduleError, wanted: &str) {
-    let text = error.to_string(rt.alloc()).expect(rt, "memory");
-    holds!(rt; text.as_str() == wanted, wanted);
-}
-
 const STEP_RAISED: &str =
     "0 (0)\n1 top\n2 (0)\n3 (0)\n4 top\n5 (0)\npending 0,1,2,3,5\nsettled yes\nquiet no\n";
 
 const LATE: &str =
     "take 0 2\nread 0 6\ntake 1 6\nread 1 1\nraise 1\nraise 0\npush 1 2\ntake 0 2\nread 0 6\nraise 0\ntake 1 5\nread 1 1\nraise 1\n";
-
-const LATE_RAISED: &str =
-    "0 (0)\n1 top\n2 top\n3 (0)\n4 (0)\n5 top\n6 top\n7 (0)\npending 0,1,3,4,7\nsettled yes\nquiet no\n";
-
-// The first line and the rest.
-fn after(rt: &(impl Abort + AllocGlobal), first: &str, rest: &str) -> String {
-    let mut text = String::from_str(rt.alloc(), first).expect(rt, "memory");
-    text.push_str(rest).expect(rt, "memory");
-    text
-}
 
 #[test]
 fn one_step_is_replayed(rt: HostRuntime) {
@@ -149,57 +124,29 @@ fn one_step_is_replayed(rt: HostRuntime) {
     );
 }
 
-#[test]
-fn a_late_read_does_no_harm(rt: HostRuntime) {
-    let game = game_from(&rt, &TWO_STEPS);
-    let later = after(&rt, "raise 0\n", LATE);
-    comes_to(
-        &rt,
-        &game,
-        LATE,
-        "events 13 done 13 skipped 0\n",
-        LATE_RAISED,
-    );
-    comes_to(
-        &rt,
-        &game,
-        later.as_str(),
-        "events 14 done 13 skipped 1\n",
-        LATE_RAISED,
-    );
-}
-
-// Schedules for two workers and eight vertices, and their refusals.
-static REFUSED: [(&str, &str); 20] = [
-    ("take 2 0\n", "S2 at line 1"),
-    ("take 0 8\n", "S3 at line 1"),
-    ("take 2 8\n", "S2 at line 1"),
-    ("take 0\n", "S1 at line 1"),
-    ("\n", "S1 at line 1"),
-    ("raise 0\ntake 0 8\ntake 2 0\n", "S3 at line 2"),
-    ("raise 0\r\n", "S1 at line 1"),
-    ("take 0  1\n", "S1 at line 1"),
-    ("take 99999999999 0", "S2 at line 1"),
-    ("take 0 99999999999999999999999999999999", "S3 at line 1"),
-    ("take 0 99999999999999999999999999999999 ", "S1 at line 1"),
-    ("take 0 4294967296x", "S1 at line 1"),
-    ("raise 00", "S1 at line 1"),
-    ("raise 0 0", "S1 at line 1"),
-    ("raise", "S1 at line 1"),
-    ("raise ", "S1 at line 1"),
-    ("raises 0", "S1 at line 1"),
-    ("take 0 ", "S1 at line 1"),
-    ("take 0 1 2", "S1 at line 1"),
-    ("pull 0 1", "S1 at line 1"),
+// Schedules for two workers and eight vertices that are refused: tests/commands has what is told of each.
+static REFUSED: [&str; 20] = [
+    "take 2 0\n",
+    "take 0 8\n",
+    "take 2 8\n",
+    "take 0\n",
+    "\n",
+    "raise 0\ntake 0 8\ntake 2 0\n",
+    "raise 0\r\n",
+    "take 0  1\n",
+    "take 99999999999 0",
+    "take 0 99999999999999999999999999999999",
+    "take 0 99999999999999999999999999999999 ",
+    "take 0 4294967296x",
+    "raise 00",
+    "raise 0 0",
+    "raise",
+    "raise ",
+    "raises 0",
+    "take 0 ",
+    "take 0 1 2",
+    "pull 0 1",
 ];
-
-#[test]
-fn faulty_schedules_are_refused(rt: HostRuntime) {
-    let game = game_from(&rt, &TWO_STEPS);
-    for (schedule, wanted) in &REFUSED {
-        is_refused(&rt, &game, schedule, wanted);
-    }
-}
 
 // What a reader gives in pieces of so many bytes is what the whole text does.
 fn is_read_alike_by(
@@ -246,7 +193,7 @@ fn schedules_are_read_in_pieces(rt: HostRuntime) {
 
 #[test]
 fn refused_schedules_are_read_in_pieces(rt: HostRuntime) {
-    for (schedule, _) in &REFUSED {
+    for schedule in &REFUSED {
         is_read_alike(&rt, schedule);
     }
 }
@@ -296,14 +243,6 @@ fn has_events(read: &Result<Vec<Event>, ReadError>, count: usize) -> bool {
         Ok(events) => events.len() == count,
         Err(_) => false,
     }
-}
-
-#[test]
-fn the_empty_text_is_a_schedule(rt: HostRuntime) {
-    let rest =
-        "0 (0)\n1 top\n2 (0)\n3 (0)\n4 (0)\n5 (0)\npending 0,1,2,3,4,5\nsettled no\nquiet no\n";
-    let game = game_from(&rt, &STEP_ROWS);
-    comes_to(&rt, &game, "", "events 0 done 0 skipped 0\n", rest);
 }
 
 // Events that one worker can't do at first: it has no vertex in hand, there is no second worker, and the game has six vertices.
