@@ -1,7 +1,7 @@
 // What `mucheck --help` shows. The script `./mucheck` takes the lines from here as long as the program isn't built: those from the
 // one that begins the text to the one that ends it.
 
-pub const HELP: &str =
+pub(crate) const HELP: &str =
     r#"Checks formulas of the modal mu-calculus at the states of labelled transition systems
 
 Usage: mucheck <COMMAND>

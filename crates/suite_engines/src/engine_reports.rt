@@ -129,7 +129,11 @@ fn outcome_text(rt: &(impl Abort + AllocGlobal), answer: &Result<bool, MuError>)
 }
 
 /// The refusal has this code and place.
-pub fn refuses_as(rt: &(impl Abort + AllocGlobal), answer: &Result<bool, MuError>, refusal: &str) {
+pub(crate) fn refuses_as(
+    rt: &(impl Abort + AllocGlobal),
+    answer: &Result<bool, MuError>,
+    refusal: &str,
+) {
     let text = outcome_text(rt, answer);
     same(rt, "refusal", text.as_str(), refusal);
 }
@@ -171,7 +175,7 @@ fn passes_refusals_on(rt: HostRuntime) {
 }
 
 /// The report on a ring of 2,500 states, at each of which the formula holds.
-pub fn ring_report(rt: &(impl Abort + AllocGlobal)) -> String {
+pub(crate) fn ring_report(rt: &(impl Abort + AllocGlobal)) -> String {
     report_of_the_ring(rt.alloc()).expect(rt, "memory")
 }
 

@@ -15,7 +15,7 @@ use search::effort::Effort;
 use std::process::Abort;
 
 /// Whether two tables have the same measure at each vertex.
-pub fn is_same(game: &Game, settled: &Settled, table: &PlainTable) -> bool
+pub(crate) fn is_same(game: &Game, settled: &Settled, table: &PlainTable) -> bool
     requires settled { settled.now.game ≡ game.now }
     requires table { table.now.game ≡ game.now }
 {
@@ -63,13 +63,13 @@ fn are_marks(game: &Game, solved: &Settled, marks: &[bool]) -> bool
 }
 
 /// Whether there is a mark at a vertex.
-pub fn is_marked(marks: &[bool], v: u32) -> bool {
+pub(crate) fn is_marked(marks: &[bool], v: u32) -> bool {
     let place = v as usize;
     place < marks.len() && marks[place]
 }
 
 /// The vertices that Even wins, by evidence that was guessed and that the checker accepts.
-pub fn certified(rt: &(impl Abort + AllocGlobal), game: &Game) -> Vec<bool> {
+pub(crate) fn certified(rt: &(impl Abort + AllocGlobal), game: &Game) -> Vec<bool> {
     certified_winners(rt.alloc(), game, None).expect(rt, "good evidence")
 }
 

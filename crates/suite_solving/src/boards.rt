@@ -45,7 +45,7 @@ fn rises_once<B: Board>(rt: &impl Abort, board: &B, source: &PlainTable)
 }
 
 /// The same to what the vertex has in the settled table.
-pub fn rises_to_the_settled<B: Board, R: Abort + AllocGlobal>(rt: &R, board: &B, game: &Game)
+pub(crate) fn rises_to_the_settled<B: Board, R: Abort + AllocGlobal>(rt: &R, board: &B, game: &Game)
     requires same { game.now ≡ B.game board.now }
     requires vertex { 4 < length game.now.vertices }
 {
@@ -54,7 +54,7 @@ pub fn rises_to_the_settled<B: Board, R: Abort + AllocGlobal>(rt: &R, board: &B,
 }
 
 /// The vertex has risen in what the board is finished into.
-pub fn is_finished<B: Board, R: Abort + AllocGlobal>(rt: &R, board: &B, game: &Game)
+pub(crate) fn is_finished<B: Board, R: Abort + AllocGlobal>(rt: &R, board: &B, game: &Game)
     requires same { game.now ≡ B.game board.now }
     requires vertex { 4 < length game.now.vertices }
 {
@@ -118,7 +118,7 @@ fn is_kept<K: GameName>(rt: &(impl Abort + AllocGlobal), game: &Game)
 }
 
 /// The game has the vertices that are asked for.
-pub fn diamond(rt: &(impl Abort + AllocGlobal)) -> Arc<Game, Global>
+pub(crate) fn diamond(rt: &(impl Abort + AllocGlobal)) -> Arc<Game, Global>
     ensures { 4 < length (arc_value result).vertices }
 {
     let game = shared_game(rt, &DIAMOND);

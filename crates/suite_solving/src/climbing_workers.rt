@@ -25,20 +25,20 @@ use workers::solving::solve_from;
 
 /// Counts the turns of each of 64 workers.
 #[derive(Drop)]
-pub struct Turns {
+pub(crate) struct Turns {
     by: [AtomicU64; 64],
 }
 
 impl Turns {
     /// None was counted yet.
-    pub fn new() -> Self {
+    pub(crate) fn new() -> Self {
         Turns {
             by: array::from_fn(|_| AtomicU64::new(0)),
         }
     }
 
     /// Those of one worker.
-    pub fn of(&self, worker: usize) -> u64 {
+    pub(crate) fn of(&self, worker: usize) -> u64 {
         if worker < self.by.len() {
             self.by[worker].load(Ordering::SeqCst)
         } else {
@@ -47,7 +47,7 @@ impl Turns {
     }
 
     /// Those of all workers.
-    pub fn all(&self) -> u64 {
+    pub(crate) fn all(&self) -> u64 {
         let mut all = 0u64;
         for turns in &self.by {
             all = all.saturating_add(turns.load(Ordering::SeqCst));
@@ -65,7 +65,7 @@ impl Gate for Turns {
 }
 
 /// The table that workers over words come to.
-pub fn lifted_over_words<G: Gate + Sync, R: Abort + AllocGlobal + Threads + Wait + Sync>(
+pub(crate) fn lifted_over_words<G: Gate + Sync, R: Abort + AllocGlobal + Threads + Wait + Sync>(
     rt: &R,
     game: &Arc<Game, Global>,
     workers: usize,
@@ -132,7 +132,7 @@ fn climb(rt: &(impl Abort + AllocGlobal), vertices: u32, apart: u32) -> Arc<Game
 }
 
 /// The game of what was pushed, to be shared.
-pub fn built(rt: &(impl Abort + AllocGlobal), builder: GameBuilder) -> Arc<Game, Global> {
+pub(crate) fn built(rt: &(impl Abort + AllocGlobal), builder: GameBuilder) -> Arc<Game, Global> {
     let game = builder.finish().expect(rt, "a game");
     shared_of(rt, game)
 }

@@ -394,7 +394,7 @@ fn ends_well_noted<
 }
 
 /// Whether workers over shards under locks leave nothing to lift.
-pub fn end_well_over_shards<
+pub(crate) fn end_well_over_shards<
     R: Abort + AllocGlobal + Threads + Wait + Clone + Copy + Drop + Send + Sync,
 >(rt: &R, game: &Arc<Game, Global>, workers: usize) -> bool
     requires { 0 < workers }
@@ -415,7 +415,7 @@ fn all_end_well<R: Abort + AllocGlobal + Threads + Wait + Clone + Copy + Drop + 
 }
 
 /// Whether workers over words, which they lift in the board's own way, leave nothing to lift.
-pub fn end_well_over_words<R: Abort + AllocGlobal + Threads + Wait + Sync>(
+pub(crate) fn end_well_over_words<R: Abort + AllocGlobal + Threads + Wait + Sync>(
     rt: &R,
     game: &Arc<Game, Global>,
     workers: usize,
@@ -440,7 +440,7 @@ fn all_end_well_over_words<R: Abort + AllocGlobal + Threads + Wait + Sync>(
 }
 
 /// Whether the table that workers begin with leaves something to lift.
-pub fn is_left(rt: &(impl Abort + AllocGlobal), game: &Game) -> bool {
+pub(crate) fn is_left(rt: &(impl Abort + AllocGlobal), game: &Game) -> bool {
     let first = opened(rt, game);
     !is_settled(game, &first)
 }

@@ -37,7 +37,7 @@ static NESTED: [Row; 18] = [
 ];
 
 /// Its least measures. None is top.
-pub static LEAST: [Option<[u32; 2]>; 18] = [
+pub(crate) static LEAST: [Option<[u32; 2]>; 18] = [
     Some([0, 0]),
     None,
     Some([2, 0]),
@@ -67,11 +67,11 @@ static PROGS: [(u32, [u32; 2], Option<[u32; 2]>); 5] = [
     (5, [1, 3], Some([1, 3])),
 ];
 
-pub fn nested_binders_game(rt: &(impl Abort + AllocGlobal)) -> Game {
+pub(crate) fn nested_binders_game(rt: &(impl Abort + AllocGlobal)) -> Game {
     game_from(rt, &NESTED)
 }
 
-pub fn is_as_wanted(m: &Measure, want: &Option<[u32; 2]>) -> bool {
+pub(crate) fn is_as_wanted(m: &Measure, want: &Option<[u32; 2]>) -> bool {
     match want {
         Some(counts) => !m.is_top() && m.counts() == counts.as_slice(),
         None => m.is_top(),
