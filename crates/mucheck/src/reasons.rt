@@ -30,5 +30,6 @@ pub fn run_why<T: Threads + Wait + Clock + Clone + Copy + Drop + Send + Sync + '
         &line,
     );
     line.finish(ticker);
+    drop(line);
     Ok(answer?)
 }

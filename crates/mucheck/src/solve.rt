@@ -42,6 +42,7 @@ pub fn run_solve<T: Threads + Wait + Clock + Clone + Copy + Drop + Send + Sync +
         &line,
     );
     line.finish(ticker);
+    drop(line);
     match files.into_refusal() {
         Some(refusal) => Err(refusal),
         None => Ok(answer?),

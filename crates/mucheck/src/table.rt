@@ -54,6 +54,7 @@ fn read_system<T: Threads + Wait + Clock + Clone + Copy + Drop + Send + Sync + '
     line.sees(Stage::ReadingSystem);
     let read = read_aut(rt.alloc(), CountedInput::new(system, &line));
     line.finish(ticker);
+    drop(line);
     Ok(read.map_err(MuError::System)?)
 }
 
@@ -80,6 +81,7 @@ fn write_line<T: Threads + Wait + Clock + Clone + Copy + Drop + Send + Sync + 's
         &line,
     );
     line.finish(ticker);
+    drop(line);
     let status = status.map_err(MuError::Write)?;
     if status == AT_FAULT {
         tell_fault(rt, system, request.strict, name);
