@@ -16,19 +16,18 @@ use progress::progs::is_measure;
 use progress::proposal::Proposal;
 use std::alloc::Global;
 use systems::system::Lts;
-use text::Memory;
 
 /// How many counts a rank has at most.
 pub(crate) const MOST_RANKS: usize = 17;
 
 /// What is guessed of the least progress table of the game of a system and a normal form, or of that of its dual.
 #[derive(Drop)]
-pub struct Claims<'a> {
-    pub(crate) whole: Whole<'a>,
+pub struct Claims {
+    pub(crate) whole: Whole,
 }
 
 // The measure of a word.
-fn measure(whole: &Whole<'_>, word: u64, counts: &mut [u32]) -> Measure
+fn measure(whole: &Whole, word: u64, counts: &mut [u32]) -> Measure
     requires { length counts.old ≤ COMPONENTS }
 {
     if word == TOP {
@@ -39,26 +38,20 @@ fn measure(whole: &Whole<'_>, word: u64, counts: &mut [u32]) -> Measure
     }
 }
 
-impl<'a> Claims<'a> {
-    /// A guess for the game of a system and a normal form, if there is one.
-    ///
-    /// # Errors
-    /// Want of memory, and nothing else.
-    pub fn of(alloc: Global, lts: &'a Lts, normal: &Normal) -> Result<Option<Self>, Memory> {
-        match Whole::of(alloc, lts, normal)? {
-            Some(whole) => Ok(Some(Claims { whole })),
-            None => Ok(None),
+impl Claims {
+    /// A guess for the game of a system and a normal form, if there is one. Want of memory is no guess.
+    pub fn of(alloc: Global, lts: &Lts, normal: &Normal) -> Option<Self> {
+        match Whole::of(alloc, lts, normal) {
+            Some(whole) => Some(Claims { whole }),
+            None => None,
         }
     }
 
-    /// A guess for the dual of that game, if there is one.
-    ///
-    /// # Errors
-    /// Want of memory, and nothing else.
-    pub fn of_dual(alloc: Global, lts: &'a Lts, normal: &Normal) -> Result<Option<Self>, Memory> {
-        match Whole::of_dual(alloc, lts, normal)? {
-            Some(whole) => Ok(Some(Claims { whole })),
-            None => Ok(None),
+    /// A guess for the dual of that game, if there is one. Want of memory is no guess.
+    pub fn of_dual(alloc: Global, lts: &Lts, normal: &Normal) -> Option<Self> {
+        match Whole::of_dual(alloc, lts, normal) {
+            Some(whole) => Some(Claims { whole }),
+            None => None,
         }
     }
 
@@ -142,7 +135,7 @@ impl<'a> Claims<'a> {
     }
 }
 
-impl Guess for Claims<'_> {
+impl Guess for Claims {
     fn parts(&self) -> u32 {
         self.count()
     }

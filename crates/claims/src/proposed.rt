@@ -11,7 +11,7 @@ use guess::whole::{Position, StepCounts};
 use progress::measure::COMPONENTS;
 use progress::proposal::Proposal;
 
-impl Claims<'_> {
+impl Claims {
     // Whether each component's values are known.
     fn is_whole(&self) -> bool {
         self.whole.part_of(0).is_some()

@@ -18,7 +18,6 @@ use forms::form::Normal;
 use std::alloc::{AllocError, Global};
 use std::thread::Threads;
 use systems::system::Lts;
-use text::Memory;
 
 /// What a player's words count in a component, and in the field of which priority.
 #[derive(Clone, Copy)]
@@ -262,28 +261,23 @@ impl Ranks {
     }
 
     // The columns of all nodes.
-    fn nodes(&self, alloc: Global) -> Result<Option<Vec<Column>>, AllocError> {
+    fn nodes(&self, alloc: Global) -> Option<Vec<Column>> {
         let mut nodes = Vec::new(alloc);
         for number in 0..self.levels.board.form.count() {
-            match self.column(number) {
-                Some(column) => nodes.push(column)?,
-                None => return Ok(None),
-            }
+            nodes.push(self.column(number)?).ok()?;
         }
-        Ok(Some(nodes))
+        Some(nodes)
     }
 
     // The ranking, into which the lists of what was counted are moved.
-    fn guessed(&mut self, alloc: Global) -> Result<Option<GuessedRanking>, AllocError> {
-        let Some(nodes) = self.nodes(alloc)? else {
-            return Ok(None);
-        };
-        let columns = columns_of(alloc, &mut self.levels.board, nodes)?;
-        Ok(Some(GuessedRanking {
+    fn guessed(&mut self, alloc: Global) -> Option<GuessedRanking> {
+        let nodes = self.nodes(alloc)?;
+        let columns = columns_of(alloc, &mut self.levels.board, nodes).ok()?;
+        Some(GuessedRanking {
             columns,
-            even_shifts: copied(alloc, &self.layout.even.kept)?,
-            odd_shifts: copied(alloc, &self.layout.odd.kept)?,
-        }))
+            even_shifts: copied(alloc, &self.layout.even.kept).ok()?,
+            odd_shifts: copied(alloc, &self.layout.odd.kept).ok()?,
+        })
     }
 }
 
@@ -369,23 +363,20 @@ fn solved<C: Crew>(crew: &C, alloc: Global, ranks: Ranks) -> Option<Ranks> {
 
 /// Guesses who wins each node of a normal form at each state of a system, as a ranking. The answer is nothing where that takes too long,
 /// where its counts don't fit a word, or for want of memory. Of a large system so many threads share what they can.
-///
-/// # Errors
-/// Want of memory, and nothing else.
 pub fn columns<R: Threads>(
     rt: &R,
     alloc: Global,
     lts: &Lts,
     normal: &Normal,
     workers: u32,
-) -> Result<Option<GuessedRanking>, Memory> {
+) -> Option<GuessedRanking> {
     match find_in(&Team { rt, workers }, alloc, lts, normal) {
-        Some(ranks) => Ok(guessed_by(alloc, ranks)?),
-        None => Ok(None),
+        Some(ranks) => guessed_by(alloc, ranks),
+        None => None,
     }
 }
 
-fn guessed_by(alloc: Global, ranks: Ranks) -> Result<Option<GuessedRanking>, AllocError> {
+fn guessed_by(alloc: Global, ranks: Ranks) -> Option<GuessedRanking> {
     let mut ranks = ranks;
     let guessed = ranks.guessed(alloc);
     drop(ranks);

@@ -14,7 +14,6 @@ use forms::form::Normal;
 use forms::labels::label_sets;
 use std::alloc::Global;
 use systems::system::Lts;
-use text::Memory;
 
 /// What falls along the edges of a component, and for times in the count of which even priority.
 #[derive(Clone, Copy)]
@@ -62,8 +61,7 @@ struct Binders {
 
 /// Guesses of values, with moves and ranks, for each node and state of some components, bottom up.
 #[derive(Drop)]
-pub struct Whole<'a> {
-    lts: &'a Lts,
+pub struct Whole {
     board: Board,
     parts: Vec<Component>,
     /// For the root of each component its place among the parts.
@@ -430,40 +428,33 @@ impl Rank {
     }
 }
 
-impl<'a> Whole<'a> {
+impl Whole {
     /// Guesses the least progress table of the game of a system and a normal form. It stops at the first component that takes
-    /// too long. There is no guess where a count fits no word.
-    ///
-    /// # Errors
-    /// Want of memory, and nothing else.
-    pub fn of(alloc: Global, lts: &'a Lts, normal: &Normal) -> Result<Option<Self>, Memory> {
-        Ok(Whole::on(alloc, lts, normal, Side::Own))
+    /// too long. There is no guess where a count fits no word, or for want of memory.
+    pub fn of(alloc: Global, lts: &Lts, normal: &Normal) -> Option<Self> {
+        Whole::on(alloc, lts, normal, Side::Own)
     }
 
     /// The same of the dual of that game.
-    ///
-    /// # Errors
-    /// Want of memory, and nothing else.
-    pub fn of_dual(alloc: Global, lts: &'a Lts, normal: &Normal) -> Result<Option<Self>, Memory> {
-        Ok(Whole::on(alloc, lts, normal, Side::Dual))
+    pub fn of_dual(alloc: Global, lts: &Lts, normal: &Normal) -> Option<Self> {
+        Whole::on(alloc, lts, normal, Side::Dual)
     }
 
-    fn on(alloc: Global, lts: &'a Lts, normal: &Normal, side: Side) -> Option<Self> {
+    fn on(alloc: Global, lts: &Lts, normal: &Normal, side: Side) -> Option<Self> {
         let scale = Scale::of(&vertices(lts, normal, side));
         match levels_of(alloc, lts, normal, side, scale, Exits::Values) {
-            Some(levels) => Whole::solved(alloc, lts, levels),
+            Some(levels) => Whole::solved(alloc, levels),
             None => None,
         }
     }
 
     // What is found by these levels. There is nothing for want of memory, or where a count fits no word.
-    fn solved(alloc: Global, lts: &'a Lts, levels: Levels) -> Option<Self> {
+    fn solved(alloc: Global, levels: Levels) -> Option<Self> {
         let mut levels = levels;
         let mut parts = Vec::new(alloc);
         let mut stock = Stock::new(alloc);
         stock.note(solve_all(alloc, &mut levels, &mut parts));
         let whole = Whole {
-            lts,
             places: places(&mut stock, levels.board.form.count(), &parts),
             board: levels.into_board(),
             parts,
@@ -483,7 +474,7 @@ impl<'a> Whole<'a> {
 
     /// How many states the system has.
     pub fn states(&self) -> u32 {
-        self.lts.states()
+        self.board.states
     }
 
     /// How many nodes the normal form has.

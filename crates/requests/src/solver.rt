@@ -9,8 +9,8 @@ ghost use Rattle.requests.specs.Solver.{FitsBoard, IsUnsolved};
 use crate::error::MuError;
 use crate::request::Options;
 use game::graph::Game;
-use measures::guess::{Guess, NoGuess};
-use measures::observer::{Observer, Silent};
+use measures::guess::Guess;
+use measures::observer::Observer;
 use measures::table::Settled;
 use std::alloc::Global;
 use std::sync::{Arc, Wait};
@@ -43,28 +43,11 @@ pub fn require_board(game: &Game, board: BoardKind) -> Result<(), MuError>
     }
 }
 
-/// The least progress table of a game, by the workers over the board that the options ask for. The gate is told of each turn.
+/// The least progress table of a game, by the workers over the board that the options ask for, with the help of a guess. The gate is told of each
+/// turn, and an observer that the search begins, and of lifts now and then.
 ///
 /// # Errors
 /// T1 where the packed board is asked for and the rank of top doesn't fit a word, and only there; T2 and V1 for memory.
-pub fn solve_with<G: Gate + Sync, R: Threads + Wait + Clone + Copy + Drop + Send + Sync>(
-    rt: &R,
-    alloc: Global,
-    game: &Arc<Game, Global>,
-    options: &Options,
-    gate: &G,
-) -> Result<Settled, MuError>
-    ensures game { IfOk result (λ s. s.game ≡ arc_value game.now) }
-    ensures board { IfOk result (λ _. FitsBoard (Some options.now.board) (arc_value game.now)) }
-    ensures refusal { IfErr result (IsUnsolved (Some options.now.board) (arc_value game.now)) }
-{
-    solve_seen(rt, alloc, game, options, gate, &Silent, &NoGuess)
-}
-
-/// Solves as `solve_with` does, with the help of a guess, and tells an observer that the search begins, and of lifts now and then.
-///
-/// # Errors
-/// Those of `solve_with`.
 pub fn solve_seen<
     G: Gate + Sync,
     O: Observer + Sync,

@@ -1,7 +1,10 @@
-// The texts of normal forms: worked examples. Their first lines by either rule of priorities are tried by the program, in tests/commands.
+// The texts of normal forms: worked examples. More first lines by either rule of priorities are tried by the program, in tests/commands.
 
-use crate::common::{form, has_taken, holds_for};
+use crate::common::{form, formula, has_taken, holds, holds_for};
+use calculus::closed::Closed;
 use forms::form::Normal;
+use forms::priorities::Priorities;
+use normal::make::normal_with;
 use normal::printer::print_normal;
 use samples::writers::{AMPLE, Narrow};
 use std::process::Abort;
@@ -42,4 +45,32 @@ fn texts_are_written_in_full(rt: HostRuntime) {
     for (text, wanted) in &TEXTS {
         is_written_of(&rt, text, wanted);
     }
+}
+
+// The text of a formula's normal form by a rule begins with this line.
+fn begins(rt: &(impl Abort + AllocGlobal), formula: &Closed, rule: Priorities, line: &str) {
+    let form = normal_with(rt.alloc(), formula, rule).expect(rt, "a normal form");
+    let mut out = Narrow::new(rt.alloc(), AMPLE, AMPLE);
+    holds!(rt; print_normal(&form, &mut out).is_ok(), line);
+    holds!(rt; out.taken.starts_with(line.as_bytes()), line);
+    drop(out);
+    drop(form);
+}
+
+#[test]
+fn priorities_are_those_of_the_rule(rt: HostRuntime) {
+    let formula = formula(&rt, "nu X. (<a>X && mu Y. <b>Y)");
+    begins(
+        &rt,
+        &formula,
+        Priorities::Nested,
+        "nodes 7 priority 2 depth 2\n",
+    );
+    begins(
+        &rt,
+        &formula,
+        Priorities::Dependent,
+        "nodes 7 priority 1 depth 2\n",
+    );
+    drop(formula);
 }

@@ -22,12 +22,12 @@ const LEAST_RANKED: u32 = 38;
 
 // The ranking that so many threads guess.
 fn guessed(
-    rt: &(impl Abort + Threads + AllocGlobal + Sync),
+    rt: &(impl Threads + AllocGlobal),
     lts: &Lts,
     form: &Normal,
     workers: u32,
 ) -> Option<GuessedRanking> {
-    columns(rt, rt.alloc(), lts, form, workers).expect(rt, "memory")
+    columns(rt, rt.alloc(), lts, form, workers)
 }
 
 fn sheet_of(rt: &impl Abort, guessed: GuessedRanking) -> Sheet {

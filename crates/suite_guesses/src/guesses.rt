@@ -234,19 +234,13 @@ pub(crate) fn question_of(
 }
 
 /// What is claimed of the game of a question, if there is something.
-pub(crate) fn claims<'q>(
-    rt: &(impl Abort + AllocGlobal),
-    question: &'q Question,
-) -> Option<Claims<'q>> {
-    Claims::of(rt.alloc(), &question.lts, &question.form).expect(rt, "memory")
+pub(crate) fn claims(rt: &impl AllocGlobal, question: &Question) -> Option<Claims> {
+    Claims::of(rt.alloc(), &question.lts, &question.form)
 }
 
 /// The same of the game's dual.
-pub(crate) fn claims_of_dual<'q>(
-    rt: &(impl Abort + AllocGlobal),
-    question: &'q Question,
-) -> Option<Claims<'q>> {
-    Claims::of_dual(rt.alloc(), &question.lts, &question.form).expect(rt, "memory")
+pub(crate) fn claims_of_dual(rt: &impl AllocGlobal, question: &Question) -> Option<Claims> {
+    Claims::of_dual(rt.alloc(), &question.lts, &question.form)
 }
 
 /// How a guess ended: how many components the nodes have that were guessed, how many were accepted, and whether nothing was left.
@@ -291,11 +285,7 @@ pub(crate) fn is_as_lifted(rt: &(impl Abort + AllocGlobal), game: &Game, solved:
 }
 
 /// The table that is guessed, and the one that is lifted from what was accepted, have to be as lifting alone leaves it.
-pub(crate) fn ends_alike(
-    rt: &(impl Abort + AllocGlobal),
-    game: &Game,
-    guess: &Claims<'_>,
-) -> Ended {
+pub(crate) fn ends_alike(rt: &(impl Abort + AllocGlobal), game: &Game, guess: &Claims) -> Ended {
     let mut table = opened(rt, game);
     let accepted = accepted(rt, game, &mut table, guess);
     let whole = is_settled(game, &table);
@@ -313,7 +303,7 @@ pub(crate) fn ends_alike(
 }
 
 // Whether nothing is left to lift, where something is guessed. All that is guessed is accepted.
-fn is_whole(rt: &(impl Abort + AllocGlobal), game: &Game, guess: &Option<Claims<'_>>) -> bool {
+fn is_whole(rt: &(impl Abort + AllocGlobal), game: &Game, guess: &Option<Claims>) -> bool {
     match guess {
         Some(guess) => {
             let ended = ends_alike(rt, game, guess);
@@ -404,7 +394,7 @@ static FAULTS: [Fault; 4] = [Fault::Value, Fault::Rank, Fault::Move, Fault::Comp
 /// A guess with a fault at a vertex, or at all vertices of each component.
 #[derive(Clone, Copy)]
 struct Wrong<'g> {
-    guess: &'g Claims<'g>,
+    guess: &'g Claims,
     fault: Fault,
     vertex: u32,
 }
@@ -498,12 +488,7 @@ fn is_refused(
 }
 
 // How many faults are refused of a guess.
-fn count_refused(
-    rt: &(impl Abort + AllocGlobal),
-    game: &Game,
-    guess: &Claims<'_>,
-    vertex: u32,
-) -> u32 {
+fn count_refused(rt: &(impl Abort + AllocGlobal), game: &Game, guess: &Claims, vertex: u32) -> u32 {
     let lifted = lifted_alone(rt, game);
     let mut refused = 0_u32;
     for fault in &FAULTS {

@@ -137,12 +137,7 @@ fn is_guessed<G: Guess>(rt: &impl AllocGlobal, game: &Game, guess: &G) -> bool {
 }
 
 // Counts a guess that left nothing to lift, if there is one. All tables are as lifting leaves them.
-fn count(
-    rt: &(impl Abort + AllocGlobal),
-    game: &Game,
-    guess: &Option<Claims<'_>>,
-    tally: &mut Tally,
-) {
+fn count(rt: &(impl Abort + AllocGlobal), game: &Game, guess: &Option<Claims>, tally: &mut Tally) {
     if let Some(guess) = guess {
         if ends_alike(rt, game, guess).whole {
             tally.claimed = tally.claimed.saturating_add(1);

@@ -284,7 +284,7 @@ pub(crate) fn solve_by_workers<
 }
 
 /// What is guessed of the game, where a guess helps.
-fn guess_where(alloc: Global, posed: &Posed, is_helped: bool) -> Option<Claims<'_>> {
+fn guess_where(alloc: Global, posed: &Posed, is_helped: bool) -> Option<Claims> {
     if !is_helped {
         return None;
     }

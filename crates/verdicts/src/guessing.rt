@@ -8,23 +8,23 @@ use std::alloc::Global;
 use systems::system::Lts;
 
 /// What is guessed of the game of a system and a formula, by one worker. Want of memory is no guess.
-pub(crate) fn guess_of<'a>(
+pub(crate) fn guess_of(
     alloc: Global,
-    system: &'a Lts,
+    system: &Lts,
     formula: &Closed,
     priorities: Priorities,
-) -> Option<Claims<'a>> {
+) -> Option<Claims> {
     let form = normal_with(alloc, formula, priorities).ok()?;
-    Claims::of(alloc, system, &form).ok()?
+    Claims::of(alloc, system, &form)
 }
 
 /// What is guessed of the dual of that game, by which Odd's evidence is made sooner. Want of memory is no guess.
-pub(crate) fn dual_guess_of<'a>(
+pub(crate) fn dual_guess_of(
     alloc: Global,
-    system: &'a Lts,
+    system: &Lts,
     formula: &Closed,
     priorities: Priorities,
-) -> Option<Claims<'a>> {
+) -> Option<Claims> {
     let form = normal_with(alloc, formula, priorities).ok()?;
-    Claims::of_dual(alloc, system, &form).ok()?
+    Claims::of_dual(alloc, system, &form)
 }

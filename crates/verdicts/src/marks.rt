@@ -150,7 +150,7 @@ fn solution_by<O: Observer + Sync, H: Threads + Wait + Clone + Copy + Drop + Sen
     game: &Arc<Game, Global>,
     options: &Options,
     observer: &O,
-    guess: &Option<Claims<'_>>,
+    guess: &Option<Claims>,
 ) -> Result<Solution, MuError>
     requires { FitsBoard (Some options.now.board) (arc_value game.now) }
     ensures solution { IfOk result (IsSolutionOf (arc_value game.now)) }

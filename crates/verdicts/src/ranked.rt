@@ -32,7 +32,7 @@ fn guessed_sheet<H: Threads>(
     form: &Normal,
     workers: u32,
 ) -> Option<Sheet> {
-    let guessed = columns(rt, alloc, system, form, workers).ok()??;
+    let guessed = columns(rt, alloc, system, form, workers)?;
     Sheet::of(guessed.columns, guessed.even_shifts, guessed.odd_shifts)
 }
 
