@@ -4,26 +4,21 @@
 
 mod check;
 mod reasons;
-mod solve;
 mod table;
 
 use crate::check::run_check;
 use crate::reasons::run_why;
-use crate::solve::run_solve;
 use crate::table::run_table;
 use command_line::information::{explanation, help_text, version_text};
 use command_line::line::command;
-use commands::normal_text::normal_asked;
-use commands::replay_text::replay_asked;
-use commands::verify_text::{verify_both_text, verify_text};
-use console::input::open;
 use console::refusal::{NO_SOURCES, Refusal, Sources, tell};
 use console::same::keep_answer_apart;
 use engines::error::{ArgumentError, MuError};
-use engines::request::{Normalize, Replay, Verify};
 use engines::status::{error_status, status_of_answer};
 use invocation::request::Command;
 use lts::put;
+use runs::solve::run_solve;
+use runs::texts::{run_normal, run_replay, run_verify};
 use std::io::ErrorKind;
 use std::process::ExitCode;
 use std::sync::Wait;
@@ -105,37 +100,4 @@ fn words(rt: &HostRuntime) -> Result<Vec<String>, MuError> {
         Err(_) => return Err(MuError::Arguments(ArgumentError::NoText)),
     };
     found.map_err(|_| MuError::Memory)
-}
-
-fn run_normal(rt: &HostRuntime, request: &Normalize<'_>) -> Result<bool, Refusal> {
-    let formula = open(rt, request.formula)?;
-    let out = &mut io::writer(rt);
-    Ok(normal_asked(rt.alloc(), request, formula, out)?)
-}
-
-/// All files are opened, in the order of the command line, before the first is read.
-fn run_verify(rt: &HostRuntime, request: &Verify<'_>) -> Result<bool, Refusal> {
-    let game = open(rt, request.game)?;
-    let evidence = open(rt, request.evidence)?;
-    let out = &mut io::writer(rt);
-    match request.other {
-        None => Ok(verify_text(rt.alloc(), game, evidence, out)?),
-        Some(other) => {
-            let other = open(rt, other)?;
-            Ok(verify_both_text(rt.alloc(), game, evidence, other, out)?)
-        }
-    }
-}
-
-/// All files are opened, in the order of the command line, before the first is read.
-fn run_replay<T: Threads + Sync>(
-    rt: &HostRuntime,
-    threads: &T,
-    request: &Replay<'_>,
-) -> Result<bool, Refusal> {
-    let system = open(rt, request.system)?;
-    let formula = open(rt, request.formula)?;
-    let schedule = open(rt, request.schedule)?;
-    let out = &mut io::writer(rt);
-    Ok(replay_asked(threads, rt.alloc(), request, system, formula, schedule, out)?)
 }

@@ -8,9 +8,9 @@ use console::stats::Stats;
 use engines::error::MuError;
 use engines::request::Table;
 use engines::status::error_status;
-use lts::reader::read_aut;
 use lts::system::Lts;
 use measures::observer::{Observer, Stage};
+use runs::system::read_system;
 use std::sync::Wait;
 use std::thread::Threads;
 use std::time::Clock;
@@ -40,22 +40,6 @@ pub fn run_table<T: Threads + Wait + Clock + Clone + Copy + Drop + Send + Sync +
         greatest = status.max(greatest);
     }
     Ok(greatest)
-}
-
-/// The system of the file of this name.
-fn read_system<T: Threads + Wait + Clock + Clone + Copy + Drop + Send + Sync + 'static>(
-    rt: &HostRuntime,
-    threads: &T,
-    name: &str,
-) -> Result<Lts, Refusal> {
-    let system = open(rt, name)?;
-    let line = ProgressLine::new(*rt, threads, Stats::Nothing, None);
-    let ticker = line.start();
-    line.sees(Stage::ReadingSystem);
-    let read = read_aut(rt.alloc(), CountedInput::new(system, &line));
-    line.finish(ticker);
-    drop(line);
-    Ok(read.map_err(MuError::System)?)
 }
 
 /// Writes the line of a formula's file, and answers its status. Where the formula is at fault, standard error tells the place.

@@ -7,12 +7,16 @@ use console::line::{Output, ProgressLine};
 use console::refusal::Refusal;
 use console::same::keep_game_apart;
 use console::stats::{Activity, Stats};
-use engines::request::Solve;
+use requests::request::Solve;
 use std::sync::Wait;
 use std::thread::Threads;
 use std::time::Clock;
 
-/// That no file is destroyed is seen to before the game is opened.
+/// Writes the winners of a game, and evidence to the files that are asked for, and answers as `solve_asked` does. That no file is destroyed is seen to
+/// before the game is opened.
+///
+/// # Errors
+/// U1, U2, U4, and those of `solve_asked`.
 pub fn run_solve<T: Threads + Wait + Clock + Clone + Copy + Drop + Send + Sync + 'static>(
     rt: &HostRuntime,
     threads: &T,

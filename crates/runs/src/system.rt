@@ -1,0 +1,32 @@
+// The system that a table is of.
+
+use console::input::{CountedInput, open};
+use console::line::ProgressLine;
+use console::refusal::Refusal;
+use console::stats::Stats;
+use lts::reader::read_aut;
+use lts::system::Lts;
+use measures::observer::{Observer, Stage};
+use requests::error::MuError;
+use std::sync::Wait;
+use std::thread::Threads;
+use std::time::Clock;
+
+/// The system of the file of this name. At a terminal a line says how much of it is read.
+///
+/// # Errors
+/// U2, and those of `read_aut`.
+pub fn read_system<T: Threads + Wait + Clock + Clone + Copy + Drop + Send + Sync + 'static>(
+    rt: &HostRuntime,
+    threads: &T,
+    name: &str,
+) -> Result<Lts, Refusal> {
+    let system = open(rt, name)?;
+    let line = ProgressLine::new(*rt, threads, Stats::Nothing, None);
+    let ticker = line.start();
+    line.sees(Stage::ReadingSystem);
+    let read = read_aut(rt.alloc(), CountedInput::new(system, &line));
+    line.finish(ticker);
+    drop(line);
+    Ok(read.map_err(MuError::System)?)
+}
