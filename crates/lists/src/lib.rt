@@ -1,0 +1,4 @@
+// Lists that are never read or written out of bounds.
+#![tactic(auto)]
+
+pub mod list;
