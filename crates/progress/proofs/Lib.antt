@@ -35,8 +35,9 @@ pub mod Joined
 pub mod Rising
 pub mod Rounds
 pub mod Demands
+pub mod Cuts
+pub mod Levels
 pub mod Proposals
 pub mod StoredProposals
 pub mod Moves
 pub mod Spanned
-pub mod Asking

@@ -1,229 +1,294 @@
--- Good proposals are least: their values lie below, one group after another.
-use Rattle.progress.proofs.Common.{◌≡◌, ◌≢◌, ◌⊎◌, ℕ, zero, suc, ◌+◌, ◌<◌, ◌≤◌, Bool, true, false, List, length, map, refl, sym, ap, subst, ◌∙◌, inl, inr}
-use Rattle.progress.proofs.Common.{arith, if◌then◌else◌, Contains, Option, Some, None, nat_lt, lt-ltb, ltb-true, slice_index, range_with_len, eqb_tells}
-use Rattle.progress.proofs.Common.{leb_tells, get_or_past, get_or-map-range_with_len, length-map-range_with_len, Player, Even, Odd, Vertex, Game, IsGame}
-use Rattle.progress.proofs.Common.{IsVertex, vertex, dual, count, components, Measure, Top, Counts, IsAtMost, IsMeasure, IsProg, IsTable, Reaches, value_at}
-use Rattle.progress.proofs.Common.{zeros, counts_of, IsPlain, IsSettled, LiesBelow, Claimed, IsGoodClaim, IsGoodEntry, claimed_at, claimed_entry, value_or}
-use Rattle.progress.specs.Claim.{IsGoodEdge}
-use Rattle.progress.specs.Proposal.{AreEnough, Falls, HasReasonsAt, IsGoodProposal, IsGoodVertex, IsReason, Proposal}
-use Rattle.progress.proofs.Claims.{claims_lie_below}
-use Rattle.progress.proofs.Lifts.{value_measure}
-use Rattle.progress.proofs.Lists.{all_contained, all_got}
-use Rattle.progress.proofs.Measures.{at_most_both, at_most_itself, at_most_or_below, none_bounded, not_below}
-use Rattle.progress.proofs.Opening.{zeros_least}
-use Rattle.progress.proofs.Settling.{progress_still, table_still}
+-- Good proposals are least: no progress table has less than their values.
+use Rattle.progress.proofs.Common.{◌≡◌, ℕ, zero, suc, ◌+◌, ◌-◌, ◌*◌, ◌/◌, ◌<◌, ◌≤◌, ◌⊎◌, Bool, true, false, List, length, refl, sym, ap, subst, ◌∙◌, inl, inr}
+use Rattle.progress.proofs.Common.{arith, true≢false, Contains, MatchBool, Some, eqb_tells, leb_tells, get_or_past, Ordering, Less, Equal, Greater, is_le, is_lt}
+use Rattle.progress.proofs.Common.{nat_cmp, Player, Even, Odd, Vertex, Game, IsGame, greatest, vertex, priority_at, greatest_met, components, measure_cmp, Measure, Top}
+use Rattle.progress.proofs.Common.{Counts, IsAtMost, IsBelow, IsMeasure, IsProgress, IsTable, Reaches, is_odd, kept, value_at, IsSettled}
+use Rattle.std.proofs.Common.{◌^◌, div-mul-le_self}
+use Rattle.std.proofs.lemmas.Nat.{le-div, pow_pos, shr-shr}
+use Rattle.progress.specs.Measure.{digit_of, counted_at, cut}
+use Rattle.progress.specs.Proposal.{AreEnough, Falls, HasAllButOne, HasAsMuch, HeightFalls, IsGoodProposal, IsReason, IsRising}
+use Rattle.progress.specs.Proposal.{MatchUpTo, Proposal, counted_of, group_at, shift_at}
+use Rattle.progress.proofs.Components.{below_greatest, odd_down_long, kept_is}
+use Rattle.progress.proofs.Cuts.{HasCounts, below_between, below_counts, cut_all_below, cut_fewer, none_between_measures, digit_some, reaches_below, reaches_cut}
+use Rattle.progress.proofs.Cycles.{no_odd_cycle, odd_or_even, priority}
+use Rattle.progress.proofs.Levels.{level, no_even_cycle}
+use Rattle.progress.proofs.Lifts.{even_reaches, odd_reaches, value_measure}
+use Rattle.progress.proofs.Measures.{at_most_itself, at_most_or_below, at_most_trans, below_at_most, not_below}
+use Rattle.progress.proofs.NotBoth.{cycle, path_weaker}
+use Rattle.progress.proofs.Order.{compared}
+use Rattle.progress.proofs.Settling.{table_still}
 
-pub zeros_below : (g : Game) (v : ℕ) → LiesBelow g v (zeros g)
-zeros_below g v = record {
-  measure = none_bounded (count g) (components g);
-  under = λ other is. zeros_least g (value_at other v) (value_measure g other is.0.1 v);
-}
+-- ------------------------------------------------------------------ orders, told
 
-some_entry : (x y : Claimed) → Some x ≡ Some y → x ≡ y
-some_entry x y e = cc
+up_to : (m r : Measure) (P Q : Type 0) → MatchUpTo (measure_cmp m r) P Q → IsBelow m r ⊎ (IsAtMost m r × Q)
+up_to m r P Q = by (measure_cmp m r) refl
+  where
+    by : (o : Ordering) → measure_cmp m r ≡ o → MatchUpTo o P Q → IsBelow m r ⊎ (IsAtMost m r × Q)
+    by Less e h = inl (ap is_lt e)
+    by Equal e h = inr (ap is_le e, h)
+    by Greater e h = absurd h
 
-counts_back : (m : Measure) → m ≢ Top → Counts (counts_of m) ≡ m
-counts_back Top n = absurd (n refl)
-counts_back (Counts c) n = refl
+fallen_at_most : (b : Bool) (m n : ℕ) → MatchBool b (m ≤ n) (m < n) → m ≤ n
+fallen_at_most true m n h = h
+fallen_at_most false m n h = omega arith
 
--- ------------------------------------------------------------------ where Odd goes on
+-- with fewer bits the order stays
+coarser : (a b j k : ℕ) → j ≤ k → a / 2 ^ j ≤ b / 2 ^ j → a / 2 ^ k ≤ b / 2 ^ k
+coarser a b j k h le =
+    let d = k - j in
+    let e : j + d ≡ k = omega arith in
+    let least : (x y : ℕ) → x ≤ y → x / 2 ^ d ≤ y / 2 ^ d =
+    λ x y l. le-div (x / 2 ^ d) y (2 ^ d) (pow_pos d) (let m = div-mul-le_self x (2 ^ d) in omega (arith, m, l)) in
+    subst (λ i. a / 2 ^ i ≤ b / 2 ^ i) e
+    (subst (λ x. x ≤ b / 2 ^ (j + d)) (shr-shr a j d) (subst (λ y. a / 2 ^ j / 2 ^ d ≤ y) (shr-shr b j d) (least (a / 2 ^ j) (b / 2 ^ j) le)))
 
-abbrev move_from : (o : Player) (P : ℕ → Type 0) (ts : List ℕ) → AreEnough o P ts → ℕ
-move_from Even P ts e = 0
-move_from Odd P ts e = e.0
+rises : (c : Proposal) → IsRising c → (q p : ℕ) → p ≤ q → shift_at c p ≤ shift_at c q
+rises c rising zero p h = let e : p ≡ 0 = omega arith in subst (λ n. shift_at c p ≤ shift_at c n) e (omega arith)
+rises c rising (suc q) p h = elim (eqb_tells p (suc q)) [
+  | inl w ↦ subst (λ n. shift_at c p ≤ shift_at c n) w.1 (omega arith)
+  | inr w ↦ (let n = w.1 in let a = rises c rising q p (omega arith) in let b = rising q in omega arith)
+]
 
-move_in : (o : Player) (P : ℕ → Type 0) (ts : List ℕ) (e : AreEnough o P ts) → o ≡ Odd → Contains ts (move_from o P ts e)
-move_in Even P ts e q = absurd cc
-move_in Odd P ts e q = e.1
+-- past the last of them shifts are the same
+pub risen : (c : Proposal) (n : ℕ) → length c.shifts ≤ n → ((p : ℕ) → p < n → shift_at c p ≤ shift_at c (suc p)) → IsRising c
+risen c n long first p = elim (leb_tells n p) [
+  | inl w ↦ (
+      let past = w.1 in
+      let a = get_or_past c.shifts p 63 (omega arith) in
+      let b = get_or_past c.shifts (suc p) 63 (omega arith) in
+      omega (arith, a, b))
+  | inr w ↦ first p w.1
+]
 
-reason_for : (o : Player) (P : ℕ → Type 0) (ts : List ℕ) (e : AreEnough o P ts) (t : ℕ) → Contains ts t → (o ≡ Odd → t ≡ move_from o P ts e) → P t
-reason_for Even P ts e t has is = e t has
-reason_for Odd P ts e t has is = subst P (sym (is refl)) e.2
+-- ------------------------------------------------------------------ a progress table beside the values
 
--- ------------------------------------------------------------------ one group over those below it
-
-module _ (c : Proposal) (game : IsGame c.game) (good : IsGoodProposal c) where
+module _ (c : Proposal) (game : IsGame c.game) (progress : IsProgress c.game c.values) (good : IsGoodProposal c) (other : List Measure) (is : IsProgress c.game other) where
   abbrev g : Game
   g = c.game
 
-  abbrev n : ℕ
-  n = length g.vertices
+  abbrev high : ℕ → Measure
+  high v = value_at c.values v
 
-  abbrev value : ℕ → Measure
-  value v = value_at c.values v
+  abbrev low : ℕ → Measure
+  low v = value_at other v
 
-  abbrev group : ℕ → ℕ
-  group v = slice_index c.groups v
+  high_measure : (v : ℕ) → IsMeasure g (high v)
+  high_measure v = value_measure g c.values progress.0.1 v
 
-  measured : (v : ℕ) → IsMeasure g (value v)
-  measured v = value_measure g c.values good.progress.0.1 v
+  low_measure : (v : ℕ) → IsMeasure g (low v)
+  low_measure v = value_measure g other is.0.1 v
 
-  -- the values of the groups below this one, and else zeros
-  abbrev low : ℕ → ℕ → Measure
-  low k v = if nat_lt (group v) k then value v else zeros g
+  -- up to this digit the value at v is greater than the progress table's
+  abbrev Above : ℕ → ℕ → Type 0
+  Above k v = IsBelow (cut k (low v)) (cut k (high v))
 
-  abbrev lows : ℕ → List Measure
-  lows k = map (low k) (range_with_len 0 n)
+  inside : (k v : ℕ) → Above k v → v < length g.vertices
+  inside k v above = elim (leb_tells (length other) v) [
+    | inl w ↦ (
+        let d = below_counts k (low v) (high v) above in
+        let e : Top ≡ Counts d.counts = sym (get_or_past other v Top w.1) ∙ d.is in
+        absurd cc)
+    | inr w ↦ (let l = w.1 in let e = is.0.0 in omega arith)
+  ]
 
-  lows_at : (k v : ℕ) → v < n → value_at (lows k) v ≡ low k v
-  lows_at k v h = get_or-map-range_with_len (low k) 0 n v v Top h (omega arith)
+  -- where v counts at the digit itself the other value falls
+  fallen : (k u t : ℕ) → k ≤ length (components g) → Above k u → Reaches g (priority g u) (low t) (low u) → priority g u ≡ counted_at g k
+      → IsBelow (cut k (low t)) (cut k (low u))
+  fallen k u t within above reaches e =
+      let p = priority g u in
+      let d = below_counts k (low u) (high u) above in
+      let kept_here : kept g p ≡ k = let q = kept_is g p in omega arith in
+      let odd : is_odd p ≡ true = elim (odd_or_even p) [ inl w ↦ w.0 | inr w ↦ (let n = w.1 in absurd (omega arith)) ] in
+      subst (λ n. IsBelow (cut n (low t)) (cut n (low u))) kept_here
+      (subst (λ m. IsBelow (cut (kept g p) (low t)) (cut (kept g p) m)) (sym d.is)
+      (reaches_below g p (low t) d.counts odd (subst (λ m. Reaches g p (low t) m) d.is reaches)))
 
-  low_value : (k v : ℕ) → group v < k → low k v ≡ value v
-  low_value k v l = ap (λ b. if b then value v else zeros g) (lt-ltb (group v) k l)
+  added : (k u t : ℕ) → k ≤ length (components g) → Above k u → Reaches g (priority g u) (low t) (low u) → priority g u ≡ counted_at g k
+      → HasAllButOne c.values k u t → IsAtMost (cut k (high t)) (cut k (low t)) → ⊥
+  added zero u t within above reaches e all h = (let m = below_greatest g u in let l = odd_down_long (greatest g) in omega arith)
+  added (suc j) u t within above reaches e all h =
+      let less = fallen (suc j) u t within above reaches e in
+      let here : suc j - 1 ≡ j = omega arith in
+      elim (up_to (cut j (high u)) (cut j (high t)) (Unit {0}) (digit_of (high u) (suc j) ≤ digit_of (high t) (suc j) + 1)
+      (subst (λ i. MatchUpTo (measure_cmp (cut i (high u)) (cut i (high t))) (Unit {0}) (digit_of (high u) (suc j) ≤ digit_of (high t) (suc j) + 1)) here all)) [
+        | inl w ↦ not_below (cut j (high u)) (cut j (high t)) w
+            (cut_fewer j (suc j) (high t) (high u) (omega arith)
+            (at_most_trans (cut (suc j) (high t)) (cut (suc j) (low t)) (cut (suc j) (high u)) h
+            (at_most_trans (cut (suc j) (low t)) (cut (suc j) (low u)) (cut (suc j) (high u))
+            (below_at_most (cut (suc j) (low t)) (cut (suc j) (low u)) less) (below_at_most (cut (suc j) (low u)) (cut (suc j) (high u)) above))))
+        | inr w ↦ none_between_measures g j (high t) (low u) (high u) (high_measure t) (low_measure u) (high_measure u)
+            (below_between (cut (suc j) (high t)) (cut (suc j) (low t)) (cut (suc j) (low u)) (cut (suc j) (low u)) h less
+            (at_most_itself (cut (suc j) (low u)))) above w.0 w.1
+      ]
 
-  low_zeros : (k v : ℕ) → k ≤ group v → low k v ≡ zeros g
-  low_zeros k v l = by (nat_lt (group v) k) refl
-    where
-      by : (b : Bool) → nat_lt (group v) k ≡ b → (if b then value v else zeros g) ≡ zeros g
-      by true e = let m = ltb-true (group v) k e in absurd (omega arith)
-      by false e = refl
+  module _ (k : ℕ) (within : k ≤ length (components g)) (none : (j v : ℕ) → k ≡ suc j → Above j v → ⊥) where
+    record Step (u t : ℕ) : Type 0 where
+      above : Above k u
+      reaches : Reaches g (priority g u) (low t) (low u)
+      reason : IsReason c k (priority g u) u t
 
-  module _ (k : ℕ) (below : (v : ℕ) → v < n → group v < k → LiesBelow g v (value v)) where
-    low_below : (v : ℕ) → v < n → LiesBelow g v (low k v)
-    low_below v h = by (nat_lt (group v) k) refl
-      where
-        by : (b : Bool) → nat_lt (group v) k ≡ b → LiesBelow g v (if b then value v else zeros g)
-        by true e = below v h (ltb-true (group v) k e)
-        by false e = zeros_below g v
+    -- u doesn't count at the digit, and t has as much
+    record IsTied (u t : ℕ) : Type 0 where
+      before : priority g u < counted_at g k
+      at_most : IsAtMost (cut k (high u)) (cut k (high t))
+      falls : IsBelow (cut k (high u)) (cut k (high t)) ⊎ Falls c k (priority g u) u t
 
-    plain : IsPlain (record { game = g; values = lows k })
-    plain = record {
-      game = game;
-      long = length-map-range_with_len (low k) 0 n;
-      below = λ v h. subst (LiesBelow g v) (sym (lows_at k v h)) (low_below v h);
-    }
+    tied : (u t : ℕ) → priority g u < counted_at g k → HasAsMuch c k (priority g u) u t → IsTied u t
+    tied u t before much = elim (up_to (cut k (high u)) (cut k (high t)) (Unit {0}) (Falls c k (priority g u) u t) much) [
+      | inl w ↦ record { before = before; at_most = below_at_most (cut k (high u)) (cut k (high t)) w; falls = inl w }
+      | inr w ↦ record { before = before; at_most = w.0; falls = inr w.1 }
+    ]
 
-    record IsClaimed (v : ℕ) : Type 0 where
-      inside : v < n
-      here : group v ≡ k
-      above : value v ≢ zeros g
-
-    abbrev IsLeft : ℕ → Type 0
-    IsLeft v = v < n → group v ≡ k → value v ≡ zeros g
-
-    decide : (v : ℕ) → IsClaimed v ⊎ IsLeft v
-    decide v = elim (leb_tells n v) [
-      | inl w ↦ inr (λ h e. (let l = w.1 in absurd (omega arith)))
-      | inr w ↦ elim (eqb_tells (group v) k) [
-        | inl y ↦ elim (at_most_or_below (zeros g) (value v)) [
-          | inl b ↦ inl (record {
-            inside = w.1;
-            here = y.1;
-            above = λ e. not_below (zeros g) (value v) b
-                (subst (λ (m : Measure). IsAtMost m (zeros g)) (sym e) (at_most_itself (zeros g)));
-          })
-          | inr l ↦ inr (λ h e. at_most_both (value v) (zeros g) l (zeros_least g (value v) (measured v)))
+    how : (u t : ℕ) → IsReason c k (priority g u) u t → IsTied u t ⊎ ((priority g u ≡ counted_at g k) × HasAllButOne c.values k u t)
+    how u t reason =
+        let p = priority g u in
+        let told : (o : Ordering) → nat_cmp p (counted_at g k) ≡ o → MatchUpTo o (HasAsMuch c k p u t) (HasAllButOne c.values k u t) =
+        λ o e. subst (λ o. MatchUpTo o (HasAsMuch c k p u t) (HasAllButOne c.values k u t)) e reason.1 in
+        elim (compared p (counted_at g k)) [
+          | inl w ↦ inl (tied u t w.1 (told Less w.0))
+          | inr w ↦ elim w [ inl e ↦ inr (e.1, told Equal e.0) | inr b ↦ absurd (told Greater b.0) ]
         ]
-        | inr y ↦ inr (λ h e. absurd (y.1 e))
+
+    low_falls : (u t : ℕ) → Step u t → IsAtMost (cut k (low t)) (cut k (low u))
+    low_falls u t s =
+        let p = priority g u in
+        let q = kept_is g p in
+        reaches_cut g p k (low t) (low u) (elim (how u t s.reason) [
+          | inl tie ↦ (let l = tie.before in omega arith)
+          | inr add ↦ (let e = add.0 in omega arith)
+        ]) s.reaches
+
+    above_next : (u t : ℕ) → Step u t → Above k t
+    above_next u t s = elim (how u t s.reason) [
+      | inl tie ↦ below_between (cut k (low t)) (cut k (low u)) (cut k (high u)) (cut k (high t)) (low_falls u t s) s.above tie.at_most
+      | inr add ↦ elim (at_most_or_below (cut k (low t)) (cut k (high t))) [
+        | inl h ↦ h
+        | inr l ↦ absurd (added k u t within s.above s.reaches add.0 add.1 l)
       ]
     ]
 
-    reasons : (v : ℕ) → IsClaimed v → HasReasonsAt c v
-    reasons v is = good.reasons v is.inside is.above
+    -- ---------------------------------------------------------------- one can always go on
 
-    abbrev made : (v : ℕ) → IsClaimed v → Claimed
-    made v is = let r = reasons v is in record {
-      value = value v;
-      move = move_from r.0.owner (IsReason c r.0.priority v) r.0.successors r.2.enough;
-      rank = counts_of (value_at c.ranks v);
+    go : (v : ℕ) (x : Vertex) (o : Player) → Above k v → vertex g v ≡ Some x → x.owner ≡ o → AreEnough o (IsReason c k x.priority v) x.successors
+        → (t : ℕ) × Reaches g x.priority (low t) (low v) × IsReason c k x.priority v t
+    go v x Even above at own enough =
+        let r = even_reaches g other game is v x at own in
+        (r.0, r.2, enough r.0 r.1.successor)
+    go v x Odd above at own (t, has, reason) = (t, odd_reaches g other game is v x at own t has, reason)
+
+    on : (v : ℕ) → Above k v → (t : ℕ) × Step v t × Above k t
+    on v above =
+        let r = (good.vertices v (inside k v above)).1 in
+        let x = r.0 in
+        let some = digit_some g k (low v) (high v) (low_measure v) (high_measure v) above (λ j e. elim (at_most_or_below (cut j (low v)) (cut j (high v))) [
+          | inl h ↦ absurd (none j v e h)
+          | inr l ↦ l
+        ]) in
+        let next = go v x x.owner above r.1 refl (r.2 k within some) in
+        let step : Step v next.0 = record {
+          above = above;
+          reaches = subst (λ o. Reaches g (priority_at o) (low next.0) (low v)) (sym r.1) next.1;
+          reason = subst (λ o. IsReason c k (priority_at o) v next.0) (sym r.1) next.2;
+        } in
+        (next.0, step, above_next v next.0 step)
+
+    -- ---------------------------------------------------------------- what never rises along steps
+
+    record Le (a b : ℕ) : Type 0 where
+      group : group_at c a ≤ group_at c b
+      lesser : IsAtMost (cut k (low a)) (cut k (low b))
+      value : IsAtMost (cut k (low b)) (cut k (low a)) → IsAtMost (cut k (high b)) (cut k (high a))
+      before : IsAtMost (cut k (low b)) (cut k (low a)) → priority g a < counted_at g k → priority g b < counted_at g k
+
+    itself : (u : ℕ) → Le u u
+    itself u = record {
+      group = omega arith;
+      lesser = at_most_itself (cut k (low u));
+      value = λ h. at_most_itself (cut k (high u));
+      before = λ h l. l;
     }
 
-    abbrev entry_by : (v : ℕ) → IsClaimed v ⊎ IsLeft v → Option Claimed
-    entry_by v (inl is) = Some (made v is)
-    entry_by v (inr left) = None
+    trans : (a b d : ℕ) → Le a b → Le b d → Le a d
+    trans a b d h i =
+        let first = at_most_trans (cut k (low b)) (cut k (low d)) (cut k (low a)) i.lesser in
+        let second = λ (back : IsAtMost (cut k (low d)) (cut k (low a))). at_most_trans (cut k (low d)) (cut k (low a)) (cut k (low b)) back h.lesser in
+        record {
+          group = (let m = h.group in let n = i.group in omega arith);
+          lesser = at_most_trans (cut k (low a)) (cut k (low b)) (cut k (low d)) h.lesser i.lesser;
+          value = λ back. at_most_trans (cut k (high d)) (cut k (high b)) (cut k (high a)) (i.value (second back)) (h.value (first back));
+          before = λ back l. i.before (second back) (h.before (first back) l);
+        }
 
-    abbrev entry : ℕ → Option Claimed
-    entry v = entry_by v (decide v)
-
-    abbrev claim : List (Option Claimed)
-    claim = map entry (range_with_len 0 n)
-
-    claim_at : (v : ℕ) → v < n → claimed_entry claim v ≡ entry v
-    claim_at v h = get_or-map-range_with_len entry 0 n v v None h (omega arith)
-
-    made_by : (v : ℕ) (x : Claimed) (d : IsClaimed v ⊎ IsLeft v) → entry_by v d ≡ Some x → (is : IsClaimed v) × (made v is ≡ x)
-    made_by v x (inl is) e = (is, some_entry (made v is) x e)
-    made_by v x (inr left) e = absurd cc
-
-    claimed : (v : ℕ) (x : Claimed) → claimed_entry claim v ≡ Some x → (is : IsClaimed v) × (made v is ≡ x)
-    claimed v x e = elim (leb_tells n v) [
-      | inl w ↦ (let past : claimed_entry claim v ≡ None = get_or_past claim v None (let h = w.1 in let l = length-map-range_with_len entry 0 n in omega arith)
-          in absurd cc)
-      | inr w ↦ made_by v x (decide v) (sym (claim_at v w.1) ∙ e)
+    tied_by : (u t : ℕ) → Step u t → IsAtMost (cut k (low u)) (cut k (low t)) → IsTied u t
+    tied_by u t s back = elim (how u t s.reason) [
+      | inl tie ↦ tie
+      | inr add ↦ absurd (not_below (cut k (low t)) (cut k (low u)) (fallen k u t within s.above s.reaches add.0) back)
     ]
 
-    -- what is claimed over the groups below is the value that is proposed
-    value_by : (v : ℕ) → v < n → group v ≤ k → (d : IsClaimed v ⊎ IsLeft v) → value_or (low k v) (entry_by v d) ≡ value v
-    value_by v h l (inl is) = refl
-    value_by v h l (inr left) = elim (eqb_tells (group v) k) [
-      | inl w ↦ low_zeros k v (let e = w.1 in omega arith) ∙ sym (left h w.1)
-      | inr w ↦ low_value k v (let e = w.1 in omega arith)
-    ]
-
-    claimed_is : (v : ℕ) → v < n → group v ≤ k → claimed_at (lows k) claim v ≡ value v
-    claimed_is v h l = ap (λ m. value_or m (claimed_entry claim v)) (lows_at k v h) ∙ (ap (value_or (low k v)) (claim_at v h) ∙ value_by v h l (decide v))
-
-    group_of : (p v t : ℕ) → Falls c p v t → group v ≡ k → group t ≤ k
-    group_of p v t (inl l) e = omega arith
-    group_of p v t (inr s) e = let q = s.0 in omega arith
-
-    rank_of : (p v t : ℕ) → Falls c p v t → group v ≡ k → group t ≡ k → Reaches (dual g) (p + 1) (value_at c.ranks t) (value_at c.ranks v)
-    rank_of p v t (inl l) e f = absurd (omega arith)
-    rank_of p v t (inr s) e f = s.1
-
-    edge : (p v t : ℕ) (x : Claimed) (is : IsClaimed v) → made v is ≡ x → value_at c.ranks v ≢ Top → IsReason c p v t → t < n → IsGoodEdge g (lows k) claim p x t
-    edge p v t x is made_is ranked reason h = record {
-      value = λ r prog. subst (λ (y : Claimed). IsAtMost y.value r) made_is
-          (reason.value r (subst (λ m. IsProg g p m r) (claimed_is t h (group_of p v t reason.falls is.here)) prog));
-      rank = λ y e. (
-          let w = claimed t y e in
-          let there = reasons t w.0 in
-          subst (λ (z : Claimed). Reaches (dual g) (p + 1) (Counts y.rank) (Counts z.rank)) made_is
-          (subst (λ (z : Claimed). Reaches (dual g) (p + 1) (Counts z.rank) (Counts (counts_of (value_at c.ranks v)))) w.1
-          (subst (λ m. Reaches (dual g) (p + 1) m (Counts (counts_of (value_at c.ranks v)))) (sym (counts_back (value_at c.ranks t) there.2.ranked))
-          (subst (λ m. Reaches (dual g) (p + 1) (value_at c.ranks t) m) (sym (counts_back (value_at c.ranks v) ranked))
-          (rank_of p v t reason.falls is.here w.0.here)))));
+    falls : (u t : ℕ) → Step u t → Le t u
+    falls u t s = record {
+      group = s.reason.0;
+      lesser = low_falls u t s;
+      value = λ back. (tied_by u t s back).at_most;
+      before = λ back l. (tied_by u t s back).before;
     }
 
-    good_claim : IsGoodClaim g (lows k) claim
-    good_claim v x e =
-        let w = claimed v x e in
-        let r = reasons v w.0 in
-        subst (λ (y : Claimed). (at : Vertex) × (vertex g v ≡ Some at) × IsGoodEntry g (lows k) claim at y) w.1 (
-          r.0,
-          r.1,
-          record {
-            measure = measured v;
-            move = move_in r.0.owner (IsReason c r.0.priority v) r.0.successors r.2.enough;
-            edges = λ t goes. edge r.0.priority v t (made v w.0) w.0 refl r.2.ranked
-                (reason_for r.0.owner (IsReason c r.0.priority v) r.0.successors r.2.enough t goes.0 goes.1)
-                (all_contained (λ u. u < n) r.0.successors t (all_got (IsVertex n) g.vertices v r.0 game.vertices r.1).within goes.0);
-          },
-        )
+    record Flat (u t : ℕ) : Type 0 where
+      reaches : Reaches g (priority g u) (low t) (low u)
+      height : HeightFalls c k (priority g u) u t
 
-    at_group : (v : ℕ) → v < n → group v ≡ k → LiesBelow g v (value v)
-    at_group v h e = by (decide v) refl
+    flat : (u t : ℕ) → Step u t × Le u t → Flat u t
+    flat u t (s, l) =
+        let tied = tied_by u t s l.lesser in
+        record {
+          reaches = s.reaches;
+          height = elim tied.falls [
+            | inl b ↦ absurd (not_below (cut k (high u)) (cut k (high t)) b (l.value (low_falls u t s)))
+            | inr f ↦ elim f [
+              | inl past ↦ (let before = l.before (low_falls u t s) tied.before in absurd (omega arith))
+              | inr less ↦ elim less [ inl n ↦ (let m = l.group in absurd (omega arith)) | inr h ↦ h ]
+            ]
+          ];
+        }
+
+    none_above : (v : ℕ) → Above k v → ⊥
+    none_above v above =
+        let r = cycle Step (Above k) (length g.vertices) (inside k) on v above in
+        let path = path_weaker (λ a b. Step a b × Le a b) Flat flat r.at r.others r.at (level Step Le itself trans falls r.at r.others r.path) in
+        let d = below_counts k (low r.at) (high r.at) r.is_in in
+        elim (odd_or_even (greatest_met g r.others)) [
+          | inl w ↦ no_odd_cycle g Flat low (λ u t s. s.reaches) r.at r.others d.counts d.is r.some path w.0
+          | inr w ↦ no_even_cycle g Flat (λ q u. counted_of c k q u) weakly strictly r.at r.others r.some path w.0
+        ]
       where
-        by : (d : IsClaimed v ⊎ IsLeft v) → decide v ≡ d → LiesBelow g v (value v)
-        by (inl is) q = claims_lie_below (record { game = g; values = lows k }) claim plain good_claim v (made v is) (claim_at v h ∙ ap (entry_by v) q)
-        by (inr left) q = subst (LiesBelow g v) (sym (left h e)) (zeros_below g v)
+        weakly : (q u t : ℕ) → Flat u t → priority g u ≤ q → counted_of c k q t ≤ counted_of c k q u
+        weakly q u t s h =
+            let p = priority g u in
+            coarser _ _ (shift_at c p) (shift_at c q) (rises c good.rising q p h)
+            (fallen_at_most (is_odd p) (counted_of c k p t) (counted_of c k p u) s.height)
 
-  low_groups : (k v : ℕ) → v < n → group v < k → LiesBelow g v (value v)
-  low_groups zero v h l = absurd (omega arith)
-  low_groups (suc k) v h l = elim (eqb_tells (group v) k) [
-    | inl w ↦ at_group k (low_groups k) v h w.1
-    | inr w ↦ (let m = w.1 in low_groups k v h (omega arith))
-  ]
+        strictly : (u t : ℕ) → Flat u t → is_odd (priority g u) ≡ false → counted_of c k (priority g u) t < counted_of c k (priority g u) u
+        strictly u t s e =
+            let p = priority g u in
+            subst (λ b. MatchBool b (counted_of c k p t ≤ counted_of c k p u) (counted_of c k p t < counted_of c k p u)) e s.height
 
-  pub good_vertex : (v : ℕ) → v < n → IsGoodVertex c v
-  good_vertex v h = (progress_still g c.values game good.progress v h, good.reasons v h)
+  empty : (k : ℕ) → k ≤ length (components g) → (v : ℕ) → Above k v → ⊥
+  empty zero within = none_above 0 within (λ j v e above. absurd cc)
+  empty (suc k) within = none_above (suc k) within (λ j v e. empty_below k j e (empty k (omega arith)) v)
+    where
+      empty_below : (k j : ℕ) → suc k ≡ suc j → ((v : ℕ) → Above k v → ⊥) → (v : ℕ) → Above j v → ⊥
+      empty_below k j e = let same : k ≡ j = omega arith in subst (λ i. ((v : ℕ) → Above k v → ⊥) → (v : ℕ) → Above i v → ⊥) same (λ h. h)
 
-  pub good_settled : IsSettled (record { game = g; values = c.values })
-  good_settled = record {
-    game = game;
-    least = record { progress = good.progress; under = λ v h. (low_groups (suc (group v)) v h (omega arith)).under };
-  }
+  under : (v : ℕ) → IsAtMost (high v) (low v)
+  under v = elim (at_most_or_below (low v) (high v)) [ inl b ↦ absurd (empty (length (components g)) (omega arith) v (whole_above v b)) | inr l ↦ l ]
+    where
+      whole_above : (v : ℕ) → IsBelow (low v) (high v) → Above (length (components g)) v
+      whole_above v b = cut_all_below g (low v) (high v) (low_measure v) (high_measure v) b
 
--- where all vertices are good the proposal is
-pub all_good : (c : Proposal) → IsTable c.game c.values → ((v : ℕ) → v < length c.game.vertices → IsGoodVertex c v) → IsGoodProposal c
-all_good c table each = record { progress = table_still c.game c.values table (λ v h. (each v h).0); reasons = λ v h. (each v h).1 }
+pub good_settled : (c : Proposal) → IsGame c.game → IsTable c.game c.values → IsGoodProposal c → IsSettled (record { game = c.game; values = c.values })
+good_settled c game table good =
+    let progress = table_still c.game c.values table (λ v h. (good.vertices v h).0) in
+    record {
+      game = game;
+      least = record { progress = progress; under = λ v h other is. under c game progress good other is v };
+    }

@@ -1,77 +1,115 @@
 -- Proposals: a value for each vertex of a game, with reasons that can be tested in one pass over the vertices.
-use Rattle.std.specs.Prelude.{◌≡◌, ◌≢◌, ◌<◌, ◌≤◌, ◌⊎◌, ℕ, ◌+◌, ◌*◌, List, Contains, Some, length, replicate, slice_index, slice_set}
+use Rattle.std.specs.Prelude.{◌≡◌, ◌≢◌, ◌<◌, ◌≤◌, ◌⊎◌, ℕ, suc, ◌+◌, ◌-◌, ◌*◌, ◌/◌, ◌^◌, List, Contains, MatchBool, Some, length, min, replicate, slice_index}
+use Rattle.std.specs.Prelude.{slice_index_or, slice_set}
+use Rattle.std.specs.Ordering.{nat_cmp}
+use Rattle.std.specs.declared.cmp.Ordering.{Ordering}
+use Rattle.std.specs.declared.cmp.Ordering.TheVariants.{Less, Equal, Greater}
 use Rattle.game.specs.declared.player.Player.{Player}
 use Rattle.game.specs.declared.player.Player.TheVariants.{Even, Odd}
-use Rattle.game.specs.Game.{Game, Vertex, dual, vertex}
-use Rattle.progress.specs.Measure.{Counts, IsAtMost, IsProg, Measure, Reaches, Top}
-use Rattle.progress.specs.Progress.{IsProgress, value_at, zeros}
+use Rattle.game.specs.Game.{Game, Vertex, vertex}
+use Rattle.game.specs.Wins.{priority_at}
+use Rattle.progress.specs.Measure.{Measure, components, digit_of, counted_at, cut, is_odd, measure_cmp}
+use Rattle.progress.specs.Progress.{value_at, zeros}
 use Rattle.progress.specs.Settling.{IsStill}
 
--- A proposal names its game. It has for each vertex a value, a group, and a rank with a count for each component of the dual game, or top where there is no
--- rank.
+-- A proposal names its game. It has for each vertex a value and a group, and at each digit of measures a height: those of digit 0 come first, those of
+-- digit 1 follow them, and where the list ends heights are 0. For each priority a shift tells how many of the lowest bits of heights don't count there.
 pub record Proposal : Type 0 where
   pub game : Game
   pub values : List Measure
   pub groups : List ℕ
-  pub ranks : List Measure
+  pub heights : List ℕ
+  pub shifts : List ℕ
 
--- zeros everywhere, without ranks
-abbrev pub blank : Game → Proposal
-blank g = record {
+-- zeros everywhere, and so many digits with heights
+abbrev pub blank : Game → List ℕ → ℕ → Proposal
+blank g shifts digits = record {
   game = g;
   values = replicate (length g.vertices) (zeros g);
   groups = replicate (length g.vertices) 0;
-  ranks = replicate (length g.vertices) Top;
+  heights = replicate (digits * length g.vertices) 0;
+  shifts = shifts;
 }
 
--- the same, but for what is proposed of v
-abbrev pub with_proposed : Proposal → ℕ → Measure → ℕ → List ℕ → Proposal
-with_proposed c v m group rank = record {
-  game = c.game;
-  values = slice_set c.values v m;
-  groups = slice_set c.groups v group;
-  ranks = slice_set c.ranks v (Counts rank);
-}
+-- another value and group of v
+abbrev pub with_value : Proposal → ℕ → Measure → ℕ → Proposal
+with_value c v m group = record c { values = slice_set c.values v m; groups = slice_set c.groups v group }
 
--- From v, a vertex of this priority, on to t the group falls, or it stays and the rank reaches, in the dual game, the rank of t: it doesn't rise in its
--- counts at
--- or above the priority, and falls in them where the priority is even.
-abbrev pub Falls : Proposal → ℕ → ℕ → ℕ → Type 0
-Falls c p v t =
-    (slice_index c.groups t < slice_index c.groups v)
-    ⊎ ((slice_index c.groups t ≡ slice_index c.groups v) × Reaches (dual c.game) (p + 1) (value_at c.ranks t) (value_at c.ranks v))
+abbrev pub height_index : Proposal → ℕ → ℕ → ℕ
+height_index c digit v = digit * length c.game.vertices + v
 
--- the value of v, a vertex of this priority, is at most what v asks for where its play goes on at t
-abbrev pub IsAskedBy : Proposal → ℕ → ℕ → ℕ → Type 0
-IsAskedBy c p v t = (r : Measure) → IsProg c.game p (value_at c.values t) r → IsAtMost (value_at c.values v) r
+-- another height of v
+abbrev pub with_height : Proposal → ℕ → ℕ → ℕ → Proposal
+with_height c digit v height = record c { heights = slice_set c.heights (height_index c digit v) height }
 
--- The edge from v to t is a reason for the value of v.
-pub record IsReason (c : Proposal) (p v t : ℕ) : Type 0 where
-  pub value : IsAskedBy c p v t
-  pub falls : Falls c p v t
+-- a shift is 63 at most
+abbrev pub shift_at : Proposal → ℕ → ℕ
+shift_at c p = min (slice_index_or c.shifts p 63) 63
+
+-- At a greater priority no more bits count.
+abbrev pub IsRising : Proposal → Type 0
+IsRising c = (p : ℕ) → shift_at c p ≤ shift_at c (suc p)
+
+-- what counts at a priority of the height at v
+abbrev pub counted_of : Proposal → (digit p v : ℕ) → ℕ
+counted_of c digit p v = slice_index c.heights (height_index c digit v) / 2 ^ shift_at c p
+
+-- From v, a vertex of this priority, on to t what counts of the height doesn't rise, and falls where the priority is even.
+abbrev pub HeightFalls : Proposal → (digit p v t : ℕ) → Type 0
+HeightFalls c digit p v t = MatchBool (is_odd p) (counted_of c digit p t ≤ counted_of c digit p v) (counted_of c digit p t < counted_of c digit p v)
+
+abbrev pub group_at : Proposal → ℕ → ℕ
+group_at c v = slice_index c.groups v
+
+-- From v on to t the group falls, or the height does, or at t stands a priority that isn't below that of the digit.
+abbrev pub Falls : Proposal → (digit p v t : ℕ) → Type 0
+Falls c digit p v t = (counted_at c.game digit ≤ priority_at (vertex c.game t)) ⊎ ((group_at c t < group_at c v) ⊎ HeightFalls c digit p v t)
+
+-- the first for what is less, the second for what is equal, and nothing for what is greater
+abbrev pub MatchUpTo : Ordering → Type 0 → Type 0 → Type 0
+MatchUpTo Less P Q = P
+MatchUpTo Equal P Q = Q
+MatchUpTo Greater P Q = ⊥
+
+-- Up to this digit t has more than v, a vertex of this priority, or as much and something falls.
+abbrev pub HasAsMuch : Proposal → (digit p v t : ℕ) → Type 0
+HasAsMuch c digit p v t = MatchUpTo (measure_cmp (cut digit (value_at c.values v)) (cut digit (value_at c.values t))) (Unit {0}) (Falls c digit p v t)
+
+-- Before this digit t has more than v, or as much and at it at most one less.
+abbrev pub HasAllButOne : List Measure → (digit v t : ℕ) → Type 0
+HasAllButOne values digit v t =
+    MatchUpTo (measure_cmp (cut (digit - 1) (value_at values v)) (cut (digit - 1) (value_at values t))) (Unit {0})
+    (digit_of (value_at values v) digit ≤ digit_of (value_at values t) digit + 1)
+
+-- The edge from v to t is a reason for what the value of v, a vertex of this priority, has at a digit: the group doesn't rise, and t has as much, but for one
+-- where v counts at this digit itself. There is none where the priority is above that of the digit.
+abbrev pub IsReason : Proposal → (digit p v t : ℕ) → Type 0
+IsReason c digit p v t =
+    (group_at c t ≤ group_at c v) × MatchUpTo (nat_cmp p (counted_at c.game digit)) (HasAsMuch c digit p v t) (HasAllButOne c.values digit v t)
 
 -- all of these for Even, and one of them for Odd
 abbrev pub AreEnough : Player → (ℕ → Type 0) → List ℕ → Type 0
 AreEnough Even P ts = (t : ℕ) → Contains ts t → P t
 AreEnough Odd P ts = (t : ℕ) × Contains ts t × P t
 
--- v has a rank, and reasons enough for its value
-pub record HasReasons (c : Proposal) (v : ℕ) (x : Vertex) : Type 0 where
-  pub ranked : value_at c.ranks v ≢ Top
-  pub enough : AreEnough x.owner (IsReason c x.priority v) x.successors
-
+-- At each digit where the value of v has anything there are reasons enough.
 abbrev pub HasReasonsAt : Proposal → ℕ → Type 0
-HasReasonsAt c v = (x : Vertex) × (vertex c.game v ≡ Some x) × HasReasons c v x
+HasReasonsAt c v =
+    (x : Vertex) × (vertex c.game v ≡ Some x) × ((digit : ℕ) → digit ≤ length (components c.game) → digit_of (value_at c.values v) digit ≢ 0
+    → AreEnough x.owner (IsReason c digit x.priority v) x.successors)
 
--- No lift raises v, and its value has its reasons where it is above zeros.
+-- No lift raises v, and its value has its reasons.
 abbrev pub IsGoodVertex : Proposal → ℕ → Type 0
-IsGoodVertex c v = IsStill c.game c.values v × (value_at c.values v ≢ zeros c.game → HasReasonsAt c v)
+IsGoodVertex c v = IsStill c.game c.values v × HasReasonsAt c v
 
 -- So are all vertices of a span, where spans have so many each.
 abbrev pub IsGoodSpan : Proposal → (size span : ℕ) → Type 0
 IsGoodSpan c size span = (v : ℕ) → span * size ≤ v → v < span * size + size → v < length c.game.vertices → IsGoodVertex c v
 
--- No lift raises a vertex, and each value above zeros has its reasons.
+abbrev pub AreGoodVertices : Proposal → Type 0
+AreGoodVertices c = (v : ℕ) → v < length c.game.vertices → IsGoodVertex c v
+
+-- Shifts don't fall, no lift raises a vertex, and each value has its reasons.
 pub record IsGoodProposal (c : Proposal) : Type 0 where
-  pub progress : IsProgress c.game c.values
-  pub reasons : (v : ℕ) → v < length c.game.vertices → value_at c.values v ≢ zeros c.game → HasReasonsAt c v
+  pub rising : IsRising c
+  pub vertices : AreGoodVertices c

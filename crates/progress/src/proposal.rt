@@ -1,33 +1,42 @@
 // Proposals of whole tables, which one pass over the vertices tests.
 
-ghost use Rattle.std.specs.Prelude.{◌≡◌, ◌<◌, ◌↔◌, ℕ, Contains, IfOk, IfSome, IsSome, IsTrue, if◌then◌else◌, length};
+ghost use Rattle.std.specs.Prelude.{◌≡◌, ◌<◌, ◌≤◌, ◌↔◌, ◌+◌, IfOk, IfSome, IsSome, IsTrue, if◌then◌else◌, length};
 ghost use Rattle.std.specs.List.{AllByRecursion};
-ghost use Rattle.game.specs.Game.{IsGame, dual};
-ghost use Rattle.progress.specs.Measure.{Counts, IsMeasure, Top, components};
+ghost use Rattle.game.specs.Game.{IsGame};
+ghost use Rattle.progress.specs.Measure.{Counts, IsMeasure, Top, components, counted_at};
 ghost use Rattle.progress.specs.Progress.{IsLeastTable, IsTable};
-ghost use Rattle.progress.specs.Proposal.{Falls, HasReasonsAt, IsAskedBy, IsGoodProposal, IsGoodVertex, IsReason, blank, with_proposed};
+ghost use Rattle.progress.specs.Proposal.{AreEnough, Falls, HasAsMuch, HasReasonsAt, HeightFalls, IsGoodProposal, IsGoodVertex, AreGoodVertices, IsReason, IsRising, blank, counted_of, height_index, shift_at, with_height, with_value};
 
-use crate::bounds::{bounds, dual_width};
+use crate::bounds::bounds;
 use crate::measure::Measure;
 use crate::progs::are_within;
 use crate::rows::Rows;
-use crate::spans::is_good_by;
+use crate::spans::are_good_by;
 use crate::table::Settled;
 use arrayvec::ArrayVec;
 use game::graph::Game;
 use game::player::Player;
 use std::alloc::Global;
+use std::cmp::Ordering;
 use std::marker::Model;
 use std::snapshot::Snapshot;
 use std::thread::Threads;
 use text::Memory;
 
-/// For each vertex of a game a value, and what its reasons fall by: a group, and a rank within the group.
+/// How many priorities have a shift.
+pub const SHIFTS: usize = 33;
+
+// The greatest shift, which is that of all priorities past those.
+const LAST_SHIFT: u32 = 63;
+
+/// For each vertex of a game a value, and what its reasons fall by: a group, and for each digit of the value a height. For each
+/// priority a shift tells how many of the lowest bits of heights don't count there.
 #[derive(Drop)]
 pub struct Proposal {
     values: Rows,
     groups: Vec<u32>,
-    ranks: Rows,
+    heights: Vec<u64>,
+    shifts: [u32; SHIFTS],
     bounds: ArrayVec<u32, 16>,
     of: Snapshot<Game>,
 }
@@ -38,18 +47,19 @@ impl Model for Proposal {
 
     ghost Value = { Proposal };
 
-    ghost view = { λ c. record { game = c.of.value; values = c.values.values; groups = c.groups.items; ranks = c.ranks.values } };
+    ghost view = { λ c. record { game = c.of.value; values = c.values.values; groups = c.groups.items; heights = c.heights.items; shifts = c.shifts } };
 
-    ghost invariant = { λ c. IsStoredProposal record { game = c.of.value; values = c.values.values; groups = c.groups.items; ranks = c.ranks.values } c.bounds.items c.values.width c.ranks.width };
+    ghost invariant = { λ c. IsStoredProposal record { game = c.of.value; values = c.values.values; groups = c.groups.items; heights = c.heights.items; shifts = c.shifts } c.bounds.items c.values.width };
 }
 
 impl Proposal {
-    /// A proposal of zeros, with all memory that it will need.
+    /// A proposal of zeros, with all memory that it will need: the first so many digits have heights, and those of the others are zeros.
     ///
     /// # Errors
     /// Want of memory, and nothing else.
-    pub fn new(alloc: Global, game: &Game) -> Result<Self, Memory>
-        ensures { IfOk result (λ c. c ≡ blank game.now) }
+    pub fn new(alloc: Global, game: &Game, shifts: [u32; SHIFTS], digits: usize) -> Result<Self, Memory>
+        requires { digits ≤ length (components game.now) + 1 }
+        ensures { IfOk result (λ c. c ≡ blank game.now shifts digits) }
     {
         game.known();
         let vertices = game.vertices() as usize;
@@ -57,7 +67,8 @@ impl Proposal {
         Ok(Proposal {
             values: Rows::zeros(alloc, vertices, bounds.len())?,
             groups: vec![in alloc; 0; vertices]?,
-            ranks: Rows::tops(alloc, vertices, dual_width(game))?,
+            heights: vec![in alloc; 0; digits * vertices]?,
+            shifts,
             bounds,
             of: Snapshot::of(game),
         })
@@ -71,147 +82,218 @@ impl Proposal {
         let _ = &self.values;
     }
 
-    /// How many counts each value has, but top.
+    /// How many counts each value has, but top. The digits are one more.
     pub fn width(&self) -> usize
         ensures { result ≡ length (components self.now.game) }
     {
         self.values.width()
     }
 
-    /// How many counts each rank has.
-    pub fn rank_width(&self) -> usize
-        ensures { result ≡ length (components (dual self.now.game)) }
-    {
-        self.ranks.width()
-    }
-
     /// Proposes top for a vertex.
-    pub fn put_top(&mut self, v: u32, group: u32, rank: &[u32])
-        requires vertex { v < length self.old.game.vertices }
-        requires rank { length rank.now ≡ length (components (dual self.old.game)) }
-        ensures { self.new ≡ with_proposed self.old v Top group rank.now }
+    pub fn put_top(&mut self, v: u32, group: u32)
+        requires { v < length self.old.game.vertices }
+        ensures { self.new ≡ with_value self.old v Top group }
     {
         self.values.set(v as usize, &Measure::top());
         self.groups[v as usize] = group;
-        self.ranks.set_counts(v as usize, rank);
     }
 
     /// Proposes these counts for a vertex, where they are a measure of the game. The answer says whether they are.
-    pub fn put_counts(&mut self, v: u32, group: u32, counts: &[u32], rank: &[u32]) -> bool
-        requires vertex { v < length self.old.game.vertices }
-        requires rank { length rank.now ≡ length (components (dual self.old.game)) }
+    pub fn put_counts(&mut self, v: u32, group: u32, counts: &[u32]) -> bool
+        requires { v < length self.old.game.vertices }
         ensures measure { IsTrue result ↔ IsMeasure self.old.game (Counts counts.now) }
-        ensures put { self.new ≡ (if result then with_proposed self.old v (Counts counts.now) group rank.now else self.old) }
+        ensures put { self.new ≡ (if result then with_value self.old v (Counts counts.now) group else self.old) }
     {
         if !are_within(counts, self.bounds.as_slice()) {
             return false;
         }
         self.values.set_counts(v as usize, counts);
         self.groups[v as usize] = group;
-        self.ranks.set_counts(v as usize, rank);
         true
     }
 
-    // Whether the groups and ranks fall along an edge, at a vertex of this priority.
-    fn falls(&self, priority: u8, v: u32, next: u32) -> bool
+    // The place of a height.
+    fn height_index(&self, digit: usize, v: u32) -> usize
+        requires digit { digit ≤ length (components self.now.game) }
         requires vertex { v < length self.now.game.vertices }
-        requires next { next < length self.now.game.vertices }
-        requires priority { priority < 255 }
-        ensures { IsTrue result ↔ Falls self.now priority v next }
+        ensures { result ≡ height_index self.now digit v }
     {
-        let (own, other) = (self.groups[v as usize], self.groups[next as usize]);
-        if other == own {
-            self.ranks.reaches(v as usize, next as usize, priority + 1)
-        } else {
-            other < own
+        digit * self.groups.len() + v as usize
+    }
+
+    /// Proposes a height for a vertex at a digit. Nothing is put where the digit has no heights.
+    pub fn put_height(&mut self, digit: usize, v: u32, height: u64)
+        requires digit { digit ≤ length (components self.old.game) }
+        requires vertex { v < length self.old.game.vertices }
+        ensures { self.new ≡ with_height self.old digit v height }
+    {
+        let index = self.height_index(digit, v);
+        if index < self.heights.len() {
+            self.heights[index] = height;
         }
     }
 
-    // Whether the value of a vertex of this priority is at most what it asks for where its play goes on at another one.
-    fn is_asked_for(&self, priority: u8, v: u32, next: u32) -> bool
-        requires vertex { v < length self.now.game.vertices }
-        requires next { next < length self.now.game.vertices }
-        ensures { IsTrue result ↔ IsAskedBy self.now priority v next }
+    // The shift of a priority.
+    fn shift(&self, priority: usize) -> u32
+        ensures { result ≡ shift_at self.now priority }
     {
-        let bounds = self.bounds.as_slice();
-        self.values
-            .is_asked_for(bounds, priority, v as usize, next as usize)
+        let shift = self.shifts.get(priority).copied();
+        shift.unwrap_or(LAST_SHIFT).min(LAST_SHIFT)
     }
 
-    // Whether an edge is a reason for the value of a vertex of this priority.
-    fn is_reason(&self, priority: u8, v: u32, next: u32) -> bool
-        requires vertex { v < length self.now.game.vertices }
-        requires next { next < length self.now.game.vertices }
-        requires priority { priority < 255 }
-        ensures { IsTrue result ↔ IsReason self.now priority v next }
+    // Whether shifts don't fall.
+    fn is_rising(&self) -> bool
+        ensures { IsTrue result ↔ IsRising self.now }
     {
-        self.falls(priority, v, next) && self.is_asked_for(priority, v, next)
-    }
-
-    // Whether each of these edges is.
-    fn are_reasons(&self, priority: u8, v: u32, successors: &[u32]) -> bool
-        requires vertex { v < length self.now.game.vertices }
-        requires inside { AllByRecursion (λ t. t < length self.now.game.vertices) successors.now }
-        requires priority { priority < 255 }
-        ensures { IsTrue result ↔ ((t : ℕ) → Contains successors.now t → IsReason self.now priority v t) }
-    {
-        for t in successors {
-            if !self.is_reason(priority, v, *t) {
+        let shifts: &[u32] = &self.shifts;
+        for p in 0..shifts.len() {
+            if self.shift(p) > self.shift(p + 1) {
                 return false;
             }
         }
         true
     }
 
-    // Whether one of these edges is.
-    fn have_reason(&self, priority: u8, v: u32, successors: &[u32]) -> bool
+    // What counts at a priority of the height of a vertex.
+    fn counted(&self, digit: usize, priority: u8, v: u32) -> u64
+        requires digit { digit ≤ length (components self.now.game) }
         requires vertex { v < length self.now.game.vertices }
-        requires inside { AllByRecursion (λ t. t < length self.now.game.vertices) successors.now }
-        requires priority { priority < 255 }
-        ensures { IsTrue result ↔ ((t : ℕ) × Contains successors.now t × IsReason self.now priority v t) }
+        ensures { result ≡ counted_of self.now digit priority v }
     {
-        for t in successors {
-            if self.is_reason(priority, v, *t) {
-                return true;
-            }
-        }
-        false
+        let height = self.heights.get(self.height_index(digit, v)).copied();
+        height.unwrap_or(0) >> self.shift(priority as usize)
     }
 
-    // Whether a vertex has a rank, and reasons enough for its value.
+    // The priority that a digit counts.
+    fn counted_at(&self, digit: usize) -> usize
+        requires { digit ≤ length (components self.now.game) }
+        ensures { result ≡ counted_at self.now.game digit }
+    {
+        2 * (self.values.width() - digit) + 1
+    }
+
+    // Whether the height falls along an edge, at a vertex of this priority.
+    fn height_falls(&self, digit: usize, priority: u8, v: u32, next: u32) -> bool
+        requires digit { digit ≤ length (components self.now.game) }
+        requires vertex { v < length self.now.game.vertices }
+        requires next { next < length self.now.game.vertices }
+        ensures { IsTrue result ↔ HeightFalls self.now digit priority v next }
+    {
+        let own = self.counted(digit, priority, v);
+        let other = self.counted(digit, priority, next);
+        if priority % 2 == 1 {
+            other <= own
+        } else {
+            other < own
+        }
+    }
+
+    // Whether something falls along an edge, at a vertex of this priority.
+    fn falls(&self, game: &Game, digit: usize, priority: u8, v: u32, next: u32) -> bool
+        requires same { self.now.game ≡ game.now }
+        requires digit { digit ≤ length (components self.now.game) }
+        requires vertex { v < length self.now.game.vertices }
+        requires next { next < length self.now.game.vertices }
+        ensures { IsTrue result ↔ Falls self.now digit priority v next }
+    {
+        game.priority(next) as usize >= self.counted_at(digit)
+            || self.groups[next as usize] < self.groups[v as usize]
+            || self.height_falls(digit, priority, v, next)
+    }
+
+    // Whether at the end of an edge there is as much as at a vertex of this priority, up to a digit.
+    fn has_as_much(&self, game: &Game, digit: usize, priority: u8, v: u32, next: u32) -> bool
+        requires same { self.now.game ≡ game.now }
+        requires digit { digit ≤ length (components self.now.game) }
+        requires vertex { v < length self.now.game.vertices }
+        requires next { next < length self.now.game.vertices }
+        ensures { IsTrue result ↔ HasAsMuch self.now digit priority v next }
+    {
+        match self.values.compare_first(v as usize, next as usize, digit) {
+            Ordering::Less => true,
+            Ordering::Equal => self.falls(game, digit, priority, v, next),
+            Ordering::Greater => false,
+        }
+    }
+
+    // Whether an edge is a reason for what the value of a vertex of this priority has at a digit.
+    fn is_reason(&self, game: &Game, digit: usize, priority: u8, v: u32, next: u32) -> bool
+        requires same { self.now.game ≡ game.now }
+        requires digit { digit ≤ length (components self.now.game) }
+        requires vertex { v < length self.now.game.vertices }
+        requires next { next < length self.now.game.vertices }
+        ensures { IsTrue result ↔ IsReason self.now digit priority v next }
+    {
+        if self.groups[next as usize] > self.groups[v as usize] {
+            return false;
+        }
+        match (priority as usize).cmp(&self.counted_at(digit)) {
+            Ordering::Less => self.has_as_much(game, digit, priority, v, next),
+            Ordering::Equal => self
+                .values
+                .has_all_but_one(v as usize, next as usize, digit),
+            Ordering::Greater => false,
+        }
+    }
+
+    // Whether these edges are reasons enough for the owner of the vertex.
+    fn are_enough(
+        &self,
+        game: &Game,
+        digit: usize,
+        owner: Player,
+        priority: u8,
+        v: u32,
+        successors: &[u32],
+    ) -> bool
+        requires same { self.now.game ≡ game.now }
+        requires digit { digit ≤ length (components self.now.game) }
+        requires vertex { v < length self.now.game.vertices }
+        requires inside { AllByRecursion (λ t. t < length self.now.game.vertices) successors.now }
+        ensures { IsTrue result ↔ AreEnough owner (IsReason self.now digit priority v) successors.now }
+    {
+        let one_is_enough = owner == Player::Odd;
+        for t in successors {
+            if self.is_reason(game, digit, priority, v, *t) == one_is_enough {
+                return one_is_enough;
+            }
+        }
+        !one_is_enough
+    }
+
+    // Whether a value has its reasons.
     fn has_reasons(&self, game: &Game, v: u32) -> bool
         requires same { self.now.game ≡ game.now }
         requires vertex { v < length game.now.vertices }
         ensures { IsTrue result ↔ HasReasonsAt self.now v }
     {
         game.known();
-        if self.ranks.is_top(v as usize) {
-            return false;
-        }
-        let priority = game.priority(v);
+        let (owner, priority) = (game.owner(v), game.priority(v));
         let successors = game.successors(v);
-        match game.owner(v) {
-            Player::Even => self.are_reasons(priority, v, successors),
-            Player::Odd => self.have_reason(priority, v, successors),
+        for digit in 0..self.values.width() + 1 {
+            if self.values.digit(v as usize, digit) > 0
+                && !self.are_enough(game, digit, owner, priority, v, successors)
+            {
+                return false;
+            }
         }
+        true
     }
 
-    /// Whether no lift raises a vertex, and its value is zeros or has its reasons.
+    /// Whether no lift raises a vertex, and its value has its reasons.
     pub(crate) fn is_good_at(&self, game: &Game, v: u32) -> bool
         requires same { self.now.game ≡ game.now }
         requires vertex { v < length game.now.vertices }
         ensures { IsTrue result ↔ IsGoodVertex self.now v }
     {
-        self.values.is_still(game, v)
-            && (self.values.is_zeros(v as usize) || self.has_reasons(game, v))
+        self.values.is_still(game, v) && self.has_reasons(game, v)
     }
 
-    /// Whether the proposal is good. It comes to each vertex once, and looks at its edges twice at most.
-    pub(crate) fn is_good(&self, game: &Game) -> bool
+    /// Whether all vertices are good. It comes to each once.
+    pub(crate) fn are_good(&self, game: &Game) -> bool
         requires same { self.now.game ≡ game.now }
-        ensures { IsTrue result ↔ IsGoodProposal self.now }
+        ensures { IsTrue result ↔ AreGoodVertices self.now }
     {
-        self.known();
         for v in 0..game.vertices() {
             if !self.is_good_at(game, v) {
                 return false;
@@ -220,24 +302,24 @@ impl Proposal {
         true
     }
 
-    // The values that are proposed, where the proposal was found good.
-    fn settled_where(self, is_good: bool) -> Option<Settled>
-        requires { IsTrue is_good ↔ IsGoodProposal self }
+    // The values that are proposed, where the vertices were found good and shifts rise.
+    fn settled_where(self, are_good: bool) -> Option<Settled>
+        requires { IsTrue are_good ↔ AreGoodVertices self }
         ensures good { IsSome result ↔ IsGoodProposal self }
         ensures game { IfSome result (λ s. s.game ≡ self.game) }
         ensures least { IfSome result (λ s. IsLeastTable self.game s.values) }
         ensures values { IfSome result (λ s. s.values ≡ self.values) }
     {
         self.known();
-        if !is_good {
+        if !are_good || !self.is_rising() {
             return None;
         }
         let Proposal { values, of, .. } = self;
         Some(Settled::of_rows(values, of))
     }
 
-    /// The values that are proposed, where the proposal is good: then they are the least progress table. It takes no memory,
-    /// comes to each vertex once, and looks at its edges twice at most.
+    /// The values that are proposed, where the proposal is good: then they are the least progress table. It takes no memory, and
+    /// comes to each vertex once.
     pub fn into_settled(self, game: &Game) -> Option<Settled>
         requires same { self.game ≡ game.now }
         ensures good { IsSome result ↔ IsGoodProposal self }
@@ -245,11 +327,11 @@ impl Proposal {
         ensures least { IfSome result (λ s. IsLeastTable game.now s.values) }
         ensures values { IfSome result (λ s. s.values ≡ self.values) }
     {
-        let is_good = self.is_good(game);
-        self.settled_where(is_good)
+        let are_good = self.are_good(game);
+        self.settled_where(are_good)
     }
 
-    /// The same, where so many threads share the vertices of a large game.
+    /// The values that are proposed, where the proposal is good. So many threads share the vertices of a large game.
     pub fn into_settled_by<R: Threads + Sync>(
         self,
         rt: &R,
@@ -263,7 +345,7 @@ impl Proposal {
         ensures least { IfSome result (λ s. IsLeastTable game.now s.values) }
         ensures values { IfSome result (λ s. s.values ≡ self.values) }
     {
-        let is_good = is_good_by(rt, alloc, &self, game, workers);
-        self.settled_where(is_good)
+        let are_good = are_good_by(rt, alloc, &self, game, workers);
+        self.settled_where(are_good)
     }
 }

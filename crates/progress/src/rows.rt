@@ -1,15 +1,15 @@
 // The measures of many vertices, in one list of counts.
 
 ghost use Rattle.std.specs.Prelude.{◌≡◌, ◌<◌, ◌≤◌, ◌↔◌, ◌+◌, ◌-◌, ◌*◌, ◌++◌, drop, length, map, replicate, slice_set, take, IfOk, IsTrue};
-ghost use Rattle.progress.specs.Measure.{Counts, IsAtMost, Top, components, measure_cmp};
+ghost use Rattle.progress.specs.Measure.{Counts, Top, components, cut, digit_of, measure_cmp};
 ghost use Rattle.progress.specs.Progress.{IsBestFor, IsTable, value_at};
-ghost use Rattle.progress.specs.Progs.{IsAtMostProg, IsProgUnder};
+ghost use Rattle.progress.specs.Proposal.{HasAllButOne};
 ghost use Rattle.progress.specs.Settling.{IsStill};
 ghost use Rattle.std.specs.List.{AllByRecursion};
 ghost use Rattle.progress.specs.View.{ArePut, HasWidth, ReachesAt, Rows, is_top_of, measure_of};
 
 use crate::measure::{COMPONENTS, Measure, compare, compare_counts};
-use crate::progs::{is_better, prog_of};
+use crate::progs::is_better;
 use game::graph::Game;
 use game::limits::MOST_VERTICES;
 use game::player::Player;
@@ -151,43 +151,48 @@ impl Rows {
         }
     }
 
-    /// Whether a measure is nothing but zeros.
-    pub(crate) fn is_zeros(&self, v: usize) -> bool
-        requires { v < length self.now.values }
-        ensures { IsTrue result ↔ (value_at self.now.values v ≡ Counts (replicate self.now.width 0)) }
+    /// Compares the measures of two places as far as their first counts.
+    pub(crate) fn compare_first(&self, v: usize, u: usize, kept: usize) -> Ordering
+        requires first { v < length self.now.values }
+        requires second { u < length self.now.values }
+        requires kept { kept ≤ self.now.width }
+        ensures { result ≡ measure_cmp (cut kept (value_at self.now.values v)) (cut kept (value_at self.now.values u)) }
     {
-        !self.is_top(v) && are_zeros(self.counts(v))
+        compare(
+            self.is_top(v),
+            &self.counts(v)[..kept],
+            self.is_top(u),
+            &self.counts(u)[..kept],
+        )
     }
 
-    /// What a vertex of this priority asks for where its play goes on at this place, in a game with these bounds.
-    pub(crate) fn prog_of(&self, bounds: &[u32], priority: u8, next: usize) -> Measure
-        requires few { length bounds.now ≤ COMPONENTS }
-        requires width { self.now.width ≡ length bounds.now }
-        requires next { next < length self.now.values }
-        ensures { IsProgUnder bounds.now priority (value_at self.now.values next) result }
+    /// A digit of the measure of a place.
+    pub(crate) fn digit(&self, v: usize, digit: usize) -> u32
+        requires vertex { v < length self.now.values }
+        requires digit { digit ≤ self.now.width }
+        ensures { result ≡ digit_of (value_at self.now.values v) digit }
     {
-        if self.is_top(next) {
-            Measure::top()
+        if digit == 0 {
+            u32::from(self.is_top(v))
+        } else if self.is_top(v) {
+            0
         } else {
-            prog_of(bounds, priority, self.counts(next))
+            self.counts(v)[digit - 1]
         }
     }
 
-    /// Whether the measure of a place is at most what a vertex of this priority asks for where its play goes on at the other, in a game with
-    /// these bounds. Where the priority is even nothing is copied.
-    pub(crate) fn is_asked_for(&self, bounds: &[u32], priority: u8, v: usize, next: usize) -> bool
-        requires few { length bounds.now ≤ COMPONENTS }
-        requires width { self.now.width ≡ length bounds.now }
+    /// Whether before a digit there is more at the next place, or as much and at it at most one less.
+    pub(crate) fn has_all_but_one(&self, v: usize, next: usize, digit: usize) -> bool
         requires place { v < length self.now.values }
         requires next { next < length self.now.values }
-        ensures { IsAtMostProg bounds.now priority (value_at self.now.values next) (value_at self.now.values v) result }
+        requires digit { digit ≤ self.now.width }
+        ensures { IsTrue result ↔ HasAllButOne self.now.values digit v next }
     {
-        if priority % 2 == 0 && !self.is_top(v) && !self.is_top(next) {
-            let kept = self.width.saturating_sub(priority as usize / 2);
-            return is_at_most_kept(self.counts(v), self.counts(next), kept);
+        match self.compare_first(v, next, digit.saturating_sub(1)) {
+            Ordering::Less => true,
+            Ordering::Equal => self.digit(v, digit) <= self.digit(next, digit).saturating_add(1),
+            Ordering::Greater => false,
         }
-        let asked = self.prog_of(bounds, priority, next);
-        self.compare_with(v, &asked).is_le()
     }
 
     /// Whether no lift raises a vertex of a game whose vertices have these measures.
@@ -250,26 +255,6 @@ impl Rows {
         self.tops[v] = false;
         write_row(self.counts.as_mut_slice(), self.width, v, counts);
     }
-}
-
-// Whether counts are at most others, of which so many are kept and the rest are zeros.
-fn is_at_most_kept(own: &[u32], counts: &[u32], kept: usize) -> bool
-    requires long { length own.now ≡ length counts.now }
-    requires kept { kept ≤ length counts.now }
-    ensures { IsTrue result ↔ IsAtMost (Counts own.now) (Counts (take kept counts.now ++ replicate (length counts.now - kept) 0)) }
-{
-    match compare_counts(&own[..kept], &counts[..kept]) {
-        Ordering::Less => true,
-        Ordering::Equal => are_zeros(&own[kept..]),
-        Ordering::Greater => false,
-    }
-}
-
-// Whether all of the numbers are zero.
-fn are_zeros(numbers: &[u32]) -> bool
-    ensures { IsTrue result ↔ (numbers.now ≡ replicate (length numbers.now) 0) }
-{
-    numbers.iter().all(|number| *number == 0)
 }
 
 // So many of the numbers, after as many for each place before.

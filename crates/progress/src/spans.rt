@@ -1,7 +1,7 @@
 // The test of a proposal by threads that share the vertices.
 
 ghost use Rattle.std.specs.Prelude.{◌≡◌, ◌<◌, ◌≤◌, ◌↔◌, ℕ, Bool, IfOk, IsTrue, false, length, slice_index_or, vec_len};
-ghost use Rattle.progress.specs.Proposal.{IsGoodProposal, IsGoodSpan};
+ghost use Rattle.progress.specs.Proposal.{AreGoodVertices, IsGoodSpan};
 
 use crate::proposal::Proposal;
 use game::graph::Game;
@@ -68,8 +68,8 @@ fn are_all(marks: &[bool]) -> bool
     true
 }
 
-// Whether a proposal is good, by a thread for each of so many spans, and for want of memory by one.
-fn is_good_spanned<R: Threads + Sync>(
+// Whether all vertices are good, by a thread for each of so many spans, and for want of memory by one.
+fn are_good_spanned<R: Threads + Sync>(
     rt: &R,
     alloc: Global,
     proposal: &Proposal,
@@ -78,18 +78,17 @@ fn is_good_spanned<R: Threads + Sync>(
 ) -> bool
     requires same { proposal.now.game ≡ game.now }
     requires spans { (0 < spans) × (spans ≤ MOST_SPANS) }
-    ensures { IsTrue result ↔ IsGoodProposal proposal.now }
+    ensures { IsTrue result ↔ AreGoodVertices proposal.now }
 {
-    proposal.known();
     let size = game.vertices().div_ceil(spans as u32);
     match good_spans(rt, alloc, proposal, game, size, spans) {
         Ok(good) => are_all(good.as_slice()),
-        Err(AllocError) => proposal.is_good(game),
+        Err(AllocError) => proposal.are_good(game),
     }
 }
 
-/// Whether a proposal is good. So many threads share the vertices of a large game.
-pub(crate) fn is_good_by<R: Threads + Sync>(
+/// Whether all vertices are good. So many threads share the vertices of a large game.
+pub(crate) fn are_good_by<R: Threads + Sync>(
     rt: &R,
     alloc: Global,
     proposal: &Proposal,
@@ -97,12 +96,12 @@ pub(crate) fn is_good_by<R: Threads + Sync>(
     workers: usize,
 ) -> bool
     requires { proposal.now.game ≡ game.now }
-    ensures { IsTrue result ↔ IsGoodProposal proposal.now }
+    ensures { IsTrue result ↔ AreGoodVertices proposal.now }
 {
     let spans = workers.min(MOST_SPANS);
     if spans < 2 || game.vertices() < LEAST_SHARED {
-        proposal.is_good(game)
+        proposal.are_good(game)
     } else {
-        is_good_spanned(rt, alloc, proposal, game, spans)
+        are_good_spanned(rt, alloc, proposal, game, spans)
     }
 }

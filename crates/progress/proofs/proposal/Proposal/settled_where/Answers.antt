@@ -1,14 +1,18 @@
-use Rattle.progress.proofs.Common.{◌∙◌, ap, length, subst, sym}
+use Rattle.progress.proofs.Common.{◌∙◌, ap, length, refl, subst, sym, true≢false}
 use Rattle.progress.specs.Proposal.{IsGoodProposal, Proposal}
 use Rattle.progress.proofs.Proposals.{good_settled}
 use Rattle.progress.proofs.proposal.Proposal.settled_where.Goals as goal
 
 pub of_rows-requires : goal.of_rows-requires
 of_rows-requires c =
-    let i = c.self.inside in
-    let good = subst (λ (d : Proposal). IsGoodProposal d) (sym c.self.view_is) (c.requires.0 c.if-not-is_good.false) in
+    let good : IsGoodProposal c.args.self = record { rising = c.is_rising.ensures.0 c.if-not-is_rising.false; vertices = c.requires.0 c.if-not-are_good.false } in
     record {
-      settled = good_settled (record { game = i.of.value; values = i.values.values; groups = i.groups.items; ranks = i.ranks.values }) c.self.invariant.game
-          good;
+      settled = good_settled _ c.self.invariant.game c.self.invariant.table (subst (λ (d : Proposal). IsGoodProposal d) (sym c.self.view_is) good);
       wide = c.self.invariant.wide ∙ ap length c.self.invariant.bounded;
     }
+
+pub returns-clause-good : goal.returns-clause-good
+returns-clause-good c = (
+  (λ yes. record { rising = c.is_rising.ensures.0 c.if-not-is_rising.false; vertices = c.requires.0 c.if-not-are_good.false }),
+  (λ good. refl),
+)

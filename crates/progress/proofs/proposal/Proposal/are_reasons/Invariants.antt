@@ -1,6 +1,0 @@
-use Rattle.progress.proofs.Common.{◌<◌, ℕ, slice_index}
-use Rattle.progress.specs.Proposal.{IsReason}
-use Rattle.progress.proofs.proposal.Proposal.are_reasons.Given as goal
-
-abbrev pub invariant-loop-t : goal.invariant-loop-t
-invariant-loop-t l = (i : ℕ) → i < l.t-index → IsReason l.self l.priority l.v (slice_index l.successors i)
