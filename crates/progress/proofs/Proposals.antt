@@ -1,6 +1,6 @@
 -- Good proposals are least: no progress table has less than their values.
-use Rattle.progress.proofs.Common.{◌≡◌, ℕ, zero, suc, ◌+◌, ◌-◌, ◌*◌, ◌/◌, ◌<◌, ◌≤◌, ◌⊎◌, Bool, true, false, List, length, refl, sym, ap, subst, ◌∙◌, inl, inr}
-use Rattle.progress.proofs.Common.{arith, true≢false, Contains, MatchBool, Some, eqb_tells, leb_tells, get_or_past, Ordering, Less, Equal, Greater, is_le, is_lt}
+use Rattle.progress.proofs.Common.{◌≡◌, ℕ, zero, suc, ◌+◌, ◌-◌, ◌/◌, ◌<◌, ◌≤◌, ◌⊎◌, Bool, true, false, List, length, refl, sym, ap, subst, ◌∙◌, inl, inr}
+use Rattle.progress.proofs.Common.{arith, MatchBool, Some, eqb_tells, leb_tells, get_or_past, Ordering, Less, Equal, Greater, is_le, is_lt}
 use Rattle.progress.proofs.Common.{nat_cmp, Player, Even, Odd, Vertex, Game, IsGame, greatest, vertex, priority_at, greatest_met, components, measure_cmp, Measure, Top}
 use Rattle.progress.proofs.Common.{Counts, IsAtMost, IsBelow, IsMeasure, IsProgress, IsTable, Reaches, is_odd, kept, value_at, IsSettled}
 use Rattle.std.proofs.Common.{◌^◌, div-mul-le_self}
@@ -9,7 +9,7 @@ use Rattle.progress.specs.Measure.{digit_of, counted_at, cut}
 use Rattle.progress.specs.Proposal.{AreEnough, Falls, HasAllButOne, HasAsMuch, HeightFalls, IsGoodProposal, IsReason, IsRising}
 use Rattle.progress.specs.Proposal.{MatchUpTo, Proposal, counted_of, group_at, shift_at}
 use Rattle.progress.proofs.Components.{below_greatest, odd_down_long, kept_is}
-use Rattle.progress.proofs.Cuts.{HasCounts, below_between, below_counts, cut_all_below, cut_fewer, none_between_measures, digit_some, reaches_below, reaches_cut}
+use Rattle.progress.proofs.Cuts.{below_between, below_counts, cut_all_below, cut_fewer, none_between_measures, digit_some, reaches_below, reaches_cut}
 use Rattle.progress.proofs.Cycles.{no_odd_cycle, odd_or_even, priority}
 use Rattle.progress.proofs.Levels.{level, no_even_cycle}
 use Rattle.progress.proofs.Lifts.{even_reaches, odd_reaches, value_measure}
@@ -178,13 +178,12 @@ module _ (c : Proposal) (game : IsGame c.game) (progress : IsProgress c.game c.v
 
     on : (v : ℕ) → Above k v → (t : ℕ) × Step v t × Above k t
     on v above =
-        let r = (good.vertices v (inside k v above)).1 in
-        let x = r.0 in
         let some = digit_some g k (low v) (high v) (low_measure v) (high_measure v) above (λ j e. elim (at_most_or_below (cut j (low v)) (cut j (high v))) [
           | inl h ↦ absurd (none j v e h)
           | inr l ↦ l
         ]) in
-        let next = go v x x.owner above r.1 refl (r.2 k within some) in
+        let r = (good.vertices v (inside k v above)).1 k within some in
+        let next = go v r.0 r.0.owner above r.1 refl r.2 in
         let step : Step v next.0 = record {
           above = above;
           reaches = subst (λ o. Reaches g (priority_at o) (low next.0) (low v)) (sym r.1) next.1;

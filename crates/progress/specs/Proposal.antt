@@ -92,11 +92,14 @@ abbrev pub AreEnough : Player → (ℕ → Type 0) → List ℕ → Type 0
 AreEnough Even P ts = (t : ℕ) → Contains ts t → P t
 AreEnough Odd P ts = (t : ℕ) × Contains ts t × P t
 
--- At each digit where the value of v has anything there are reasons enough.
+-- What the value of v has at this digit, if anything, has reasons enough.
+abbrev pub HasReasonsFor : Proposal → (digit v : ℕ) → Type 0
+HasReasonsFor c digit v =
+    digit_of (value_at c.values v) digit ≢ 0
+    → (x : Vertex) × (vertex c.game v ≡ Some x) × AreEnough x.owner (IsReason c digit x.priority v) x.successors
+
 abbrev pub HasReasonsAt : Proposal → ℕ → Type 0
-HasReasonsAt c v =
-    (x : Vertex) × (vertex c.game v ≡ Some x) × ((digit : ℕ) → digit ≤ length (components c.game) → digit_of (value_at c.values v) digit ≢ 0
-    → AreEnough x.owner (IsReason c digit x.priority v) x.successors)
+HasReasonsAt c v = (digit : ℕ) → digit ≤ length (components c.game) → HasReasonsFor c digit v
 
 -- No lift raises v, and its value has its reasons.
 abbrev pub IsGoodVertex : Proposal → ℕ → Type 0

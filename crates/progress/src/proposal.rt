@@ -5,7 +5,8 @@ ghost use Rattle.std.specs.List.{AllByRecursion};
 ghost use Rattle.game.specs.Game.{IsGame};
 ghost use Rattle.progress.specs.Measure.{Counts, IsMeasure, Top, components, counted_at};
 ghost use Rattle.progress.specs.Progress.{IsLeastTable, IsTable};
-ghost use Rattle.progress.specs.Proposal.{AreEnough, Falls, HasAsMuch, HasReasonsAt, HeightFalls, IsGoodProposal, IsGoodVertex, AreGoodVertices, IsReason, IsRising, blank, counted_of, height_index, shift_at, with_height, with_value};
+ghost use Rattle.game.specs.declared.player.Player.TheVariants.{Odd};
+ghost use Rattle.progress.specs.Proposal.{AreEnough, Falls, HasAsMuch, HasReasonsAt, HasReasonsFor, HeightFalls, IsGoodProposal, IsGoodVertex, AreGoodVertices, IsReason, IsRising, blank, counted_of, height_index, shift_at, with_height, with_value};
 
 use crate::bounds::bounds;
 use crate::measure::Measure;
@@ -118,7 +119,7 @@ impl Proposal {
         requires vertex { v < length self.now.game.vertices }
         ensures { result ≡ height_index self.now digit v }
     {
-        digit * self.groups.len() + v as usize
+        digit * self.groups.as_slice().len() + v as usize
     }
 
     /// Proposes a height for a vertex at a digit. Nothing is put where the digit has no heights.
@@ -252,7 +253,7 @@ impl Proposal {
         requires inside { AllByRecursion (λ t. t < length self.now.game.vertices) successors.now }
         ensures { IsTrue result ↔ AreEnough owner (IsReason self.now digit priority v) successors.now }
     {
-        let one_is_enough = owner == Player::Odd;
+        let one_is_enough = is_odd(owner);
         for t in successors {
             if self.is_reason(game, digit, priority, v, *t) == one_is_enough {
                 return one_is_enough;
@@ -261,19 +262,29 @@ impl Proposal {
         !one_is_enough
     }
 
+    // Whether what a value has at a digit has reasons enough.
+    fn has_reasons_for(&self, game: &Game, digit: usize, v: u32) -> bool
+        requires same { self.now.game ≡ game.now }
+        requires digit { digit ≤ length (components self.now.game) }
+        requires vertex { v < length game.now.vertices }
+        ensures { IsTrue result ↔ HasReasonsFor self.now digit v }
+    {
+        game.known();
+        if self.values.digit(v as usize, digit) == 0 {
+            return true;
+        }
+        let (owner, priority) = (game.owner(v), game.priority(v));
+        self.are_enough(game, digit, owner, priority, v, game.successors(v))
+    }
+
     // Whether a value has its reasons.
     fn has_reasons(&self, game: &Game, v: u32) -> bool
         requires same { self.now.game ≡ game.now }
         requires vertex { v < length game.now.vertices }
         ensures { IsTrue result ↔ HasReasonsAt self.now v }
     {
-        game.known();
-        let (owner, priority) = (game.owner(v), game.priority(v));
-        let successors = game.successors(v);
-        for digit in 0..self.values.width() + 1 {
-            if self.values.digit(v as usize, digit) > 0
-                && !self.are_enough(game, digit, owner, priority, v, successors)
-            {
+        for digit in 0..=self.values.width() {
+            if !self.has_reasons_for(game, digit, v) {
                 return false;
             }
         }
@@ -347,5 +358,15 @@ impl Proposal {
     {
         let are_good = are_good_by(rt, alloc, &self, game, workers);
         self.settled_where(are_good)
+    }
+}
+
+// Whether a player is Odd.
+fn is_odd(player: Player) -> bool
+    ensures { IsTrue result ↔ (player ≡ Odd) }
+{
+    match player {
+        Player::Even => false,
+        Player::Odd => true,
     }
 }

@@ -1,4 +1,4 @@
-use Rattle.progress.proofs.Common.{◌∙◌, ap, length, refl, subst, sym, true≢false}
+use Rattle.progress.proofs.Common.{◌∙◌, ap, length, refl, subst, sym}
 use Rattle.progress.specs.Proposal.{IsGoodProposal, Proposal}
 use Rattle.progress.proofs.Proposals.{good_settled}
 use Rattle.progress.proofs.proposal.Proposal.settled_where.Goals as goal
