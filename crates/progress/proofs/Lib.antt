@@ -28,9 +28,7 @@ pub mod Opening
 pub mod Lifting
 pub mod Dual
 pub mod Claims
-pub mod Putting
-pub mod StoredClaims
-pub mod Jumping
+pub mod Places
 pub mod Joined
 pub mod Rising
 pub mod Rounds

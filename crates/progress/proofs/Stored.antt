@@ -135,8 +135,3 @@ rows_zeros (suc n) w =
     ap (rows_of w (false ∷ replicate n false)) (zeros_split n w)
     ∙ (ap₂ (λ xs ys. Counts xs ∷ rows_of w (replicate n false) ys) (zeros_first w (n * w)) (zeros_rest w (n * w))
     ∙ ap (λ ms. Counts (replicate w 0) ∷ ms) (rows_zeros n w))
-
--- nothing but top
-pub rows_tops : (w n : ℕ) (cs : List ℕ) → rows_of w (replicate n true) cs ≡ replicate n Top
-rows_tops w zero cs = refl
-rows_tops w (suc n) cs = ap (λ ms. Top ∷ ms) (rows_tops w n (drop w cs))

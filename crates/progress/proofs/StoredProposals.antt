@@ -11,7 +11,7 @@ use Rattle.progress.proofs.Bests.{vertex_here, vertex_tells}
 use Rattle.progress.proofs.Lists.{all_from}
 use Rattle.progress.proofs.Measures.{none_bounded}
 use Rattle.progress.proofs.Plain.{bounds_few, bounds_long, zeros_are}
-use Rattle.progress.proofs.Putting.{contained_from, place_contained}
+use Rattle.progress.proofs.Places.{contained_from, place_contained}
 use Rattle.progress.proofs.Within.{measure_within}
 
 -- ------------------------------------------------------------------ nothing yet

@@ -1,12 +1,12 @@
 -- The least measure that reaches another, as code finds it.
-use Rattle.std.specs.Prelude.{◌≡◌, ◌<◌, ◌≤◌, ◌↔◌, ℕ, Bool, IsTrue, List, Some, map, slice_index}
+use Rattle.std.specs.Prelude.{◌≡◌, ◌<◌, ◌≤◌, ℕ, IsTrue, List, Some, map, slice_index}
 use Rattle.std.specs.List.{AllZip}
 use Rattle.std.specs.declared.cmp.Ordering.{Ordering}
 use Rattle.std.specs.Ordering.{is_gt, is_lt}
 use Rattle.game.specs.Game.{Game, Vertex, count, vertex}
 use Rattle.game.specs.declared.player.Player.{Player}
 use Rattle.game.specs.declared.player.Player.TheVariants.{Even, Odd}
-use Rattle.progress.specs.Measure.{Measure, components, IsAtMost, IsMeasure, IsProg}
+use Rattle.progress.specs.Measure.{Measure, components, IsMeasure, IsProg}
 use Rattle.progress.specs.Progress.{IsBestFor, IsLift}
 
 -- the greatest count of each component
@@ -20,10 +20,6 @@ AreAtBounds limits counts from to = (i : ℕ) → from ≤ i → i < to → slic
 -- in each game with these bounds r is the prog of the measure at this priority
 abbrev pub IsProgUnder : List ℕ → ℕ → Measure → Measure → Type 0
 IsProgUnder limits p m r = (g : Game) → bounds g ≡ limits → IsMeasure g m → IsProg g p m r
-
--- in each game with these bounds the second measure is at most the prog of the first at this priority
-abbrev pub IsAtMostProg : List ℕ → ℕ → Measure → Measure → Bool → Type 0
-IsAtMostProg limits p m own low = (g : Game) → bounds g ≡ limits → IsMeasure g m → (r : Measure) → IsProg g p m r → (IsTrue low ↔ IsAtMost own r)
 
 -- the prog of a measure at a vertex
 abbrev pub IsProgAt : Game → ℕ → Measure → Measure → Type 0

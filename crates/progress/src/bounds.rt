@@ -1,7 +1,6 @@
 // The components of a game, and how far their counts go.
 
 ghost use Rattle.std.specs.Prelude.{◌≡◌, ◌≤◌, length};
-ghost use Rattle.game.specs.Game.{dual};
 ghost use Rattle.progress.specs.Measure.{components};
 ghost use Rattle.progress.specs.Progs.{bounds as bounds_of};
 
@@ -32,16 +31,4 @@ pub fn width(game: &Game) -> usize
 {
     game.known();
     bounds(game).len()
-}
-
-/// How many components the dual game has.
-#[tactic(auto, using(crate::proofs::StoredClaims::dual_long, crate::proofs::StoredClaims::dual_none))]
-pub(crate) fn dual_width(game: &Game) -> usize
-    ensures { result ≡ length (components (dual game.now)) }
-{
-    if game.vertices() == 0 {
-        0
-    } else {
-        greatest_priority(game) as usize / 2 + 1
-    }
 }

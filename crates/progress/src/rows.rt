@@ -6,7 +6,7 @@ ghost use Rattle.progress.specs.Progress.{IsBestFor, IsTable, value_at};
 ghost use Rattle.progress.specs.Proposal.{HasAllButOne};
 ghost use Rattle.progress.specs.Settling.{IsStill};
 ghost use Rattle.std.specs.List.{AllByRecursion};
-ghost use Rattle.progress.specs.View.{ArePut, HasWidth, ReachesAt, Rows, is_top_of, measure_of};
+ghost use Rattle.progress.specs.View.{HasWidth, ReachesAt, Rows, is_top_of, measure_of};
 
 use crate::measure::{COMPONENTS, Measure, compare, compare_counts};
 use crate::progs::is_better;
@@ -51,21 +51,6 @@ impl Rows {
         Ok(Rows {
             width,
             tops: vec![in alloc; false; length]?,
-            counts: vec![in alloc; 0; length * width]?,
-        })
-    }
-
-    /// So many measures, all of them top.
-    #[tactic(auto, using(crate::proofs::Stored::rows_tops))]
-    pub(crate) fn tops(alloc: Global, length: usize, width: usize) -> Result<Self, AllocError>
-        requires vertices { length ≤ MOST_VERTICES }
-        requires width { width ≤ COMPONENTS + 1 }
-        ensures width { IfOk result (λ r. r.width ≡ width) }
-        ensures tops { IfOk result (λ r. r.values ≡ replicate length Top) }
-    {
-        Ok(Rows {
-            width,
-            tops: vec![in alloc; true; length]?,
             counts: vec![in alloc; 0; length * width]?,
         })
     }
@@ -233,16 +218,6 @@ impl Rows {
             self.tops[v] = true;
         } else {
             self.set_counts(v, m.counts());
-        }
-    }
-
-    /// Puts top in these places.
-    pub(crate) fn put_top(&mut self, places: &[u32])
-        requires { AllByRecursion (λ v. v < length self.old.values) places.now }
-        ensures { ArePut self.old places.now self.new }
-    {
-        for v in places {
-            self.set(*v as usize, &Measure::top());
         }
     }
 

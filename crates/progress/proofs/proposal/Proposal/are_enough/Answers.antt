@@ -1,6 +1,6 @@
 use Rattle.progress.proofs.Common.{◌<◌, arith, length, refl, slice_index, All-from_recursion}
 use Rattle.progress.specs.Proposal.{IsReason}
-use Rattle.progress.proofs.Putting.{more_places}
+use Rattle.progress.proofs.Places.{more_places}
 use Rattle.progress.proofs.StoredProposals.{Undecided, enough_early, enough_late, undecided_one}
 use Rattle.progress.proofs.proposal.Proposal.are_enough.Goals as goal
 
