@@ -2,7 +2,7 @@
 use Rattle.progress.proofs.Common.{◌≡◌, ◌≢◌, ℕ, zero, suc, ◌+◌, ◌≤◌, true, false, List, [], ◌∷◌, length, refl, sym, ap, subst, inl, inr, arith, true≢false, slice_index, take_all}
 use Rattle.progress.proofs.Common.{AllZip-long, Game, count, components, Measure, Top, Counts, IsAtMost, IsBelow, IsMeasure, Reaches, is_odd, kept}
 use Rattle.progress.specs.Measure.{digit_of, cut}
-use Rattle.progress.proofs.Order.{Over, over_from, over_to, over_fewer, whole_fewer}
+use Rattle.progress.proofs.Order.{Over, over_from, over_to, over_fewer}
 use Rattle.progress.proofs.Measures.{at_most_or_below, at_most_top, at_most_trans, not_below, over_reaches}
 
 -- what is below something between
@@ -18,12 +18,6 @@ cut_fewer j k Top Top h o = refl
 cut_fewer j k Top (Counts d) h o = absurd (true≢false (sym o))
 cut_fewer j k (Counts c) Top h o = refl
 cut_fewer j k (Counts c) (Counts d) h o = over_to false j c d (over_fewer false j k c d h (over_from false k c d o))
-
-pub cut_whole : (k : ℕ) (m r : Measure) → IsAtMost m r → IsAtMost (cut k m) (cut k r)
-cut_whole k Top Top o = refl
-cut_whole k Top (Counts d) o = absurd (true≢false (sym o))
-cut_whole k (Counts c) Top o = refl
-cut_whole k (Counts c) (Counts d) o = over_to false k c d (whole_fewer k c d o)
 
 -- all counts are the measure
 cut_all : (g : Game) (m : Measure) → IsMeasure g m → cut (length (components g)) m ≡ m

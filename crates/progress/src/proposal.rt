@@ -58,7 +58,12 @@ impl Proposal {
     ///
     /// # Errors
     /// Want of memory, and nothing else.
-    pub fn new(alloc: Global, game: &Game, shifts: [u32; SHIFTS], digits: usize) -> Result<Self, Memory>
+    pub fn new(
+        alloc: Global,
+        game: &Game,
+        shifts: [u32; SHIFTS],
+        digits: usize,
+    ) -> Result<Self, Memory>
         requires { digits ≤ length (components game.now) + 1 }
         ensures { IfOk result (λ c. c ≡ blank game.now shifts digits) }
     {
@@ -197,9 +202,9 @@ impl Proposal {
         requires next { next < length self.now.game.vertices }
         ensures { IsTrue result ↔ Falls self.now digit priority v next }
     {
-        game.priority(next) as usize >= self.counted_at(digit)
-            || self.groups[next as usize] < self.groups[v as usize]
+        self.groups[next as usize] < self.groups[v as usize]
             || self.height_falls(digit, priority, v, next)
+            || game.priority(next) as usize >= self.counted_at(digit)
     }
 
     // Whether at the end of an edge there is as much as at a vertex of this priority, up to a digit.

@@ -2,7 +2,6 @@ use Rattle.progress.proofs.Common.{◌≡◌, ◌≤◌, ◌*◌, Bool, Game, Is
 use Rattle.std.proofs.Common.{mul_comm}
 use Rattle.std.proofs.lemmas.Grind.{div_ceil_times}
 use Rattle.std.specs.Int.{div_ceil}
-
 use Rattle.progress.proofs.Spanned.{all_spanned}
 use Rattle.progress.proofs.spans.are_good_spanned.Goals as goal
 
