@@ -244,8 +244,11 @@ module _ (c : Proposal) (game : IsGame c.game) (progress : IsProgress c.game c.v
           height = elim tied.falls [
             | inl b ↦ absurd (not_below (cut k (high u)) (cut k (high t)) b (l.value (low_falls u t s)))
             | inr f ↦ elim f [
-              | inl n ↦ (let m = l.group in absurd (omega arith))
-              | inr rest ↦ elim rest [ inl h ↦ h | inr past ↦ (let before = l.before (low_falls u t s) tied.before in absurd (omega arith)) ]
+              | inl other ↦ elim other [
+                | inl n ↦ (let m = l.group in absurd (omega arith))
+                | inr past ↦ (let before = l.before (low_falls u t s) tied.before in absurd (omega arith))
+              ]
+              | inr h ↦ h
             ]
           ];
         }

@@ -61,9 +61,10 @@ HeightFalls c digit p v t = MatchBool (is_odd p) (counted_of c digit p t ≤ cou
 abbrev pub group_at : Proposal → ℕ → ℕ
 group_at c v = slice_index c.groups v
 
--- From v on to t the group falls, or the height does, or the priority at t isn't below that of the digit.
+-- From v on to t the group falls, or the priority at t isn't below that of the digit, or the height falls.
 abbrev pub Falls : Proposal → (digit p v t : ℕ) → Type 0
-Falls c digit p v t = (group_at c t < group_at c v) ⊎ (HeightFalls c digit p v t ⊎ (counted_at c.game digit ≤ priority_at (vertex c.game t)))
+Falls c digit p v t =
+    ((group_at c t < group_at c v) ⊎ (counted_at c.game digit ≤ priority_at (vertex c.game t))) ⊎ HeightFalls c digit p v t
 
 -- the first for what is less, the second for what is equal, and nothing for what is greater
 abbrev pub MatchUpTo : Ordering → Type 0 → Type 0 → Type 0

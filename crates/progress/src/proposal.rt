@@ -6,7 +6,7 @@ ghost use Rattle.game.specs.Game.{IsGame};
 ghost use Rattle.progress.specs.Measure.{Counts, IsMeasure, Top, components, counted_at};
 ghost use Rattle.progress.specs.Progress.{IsLeastTable, IsTable};
 ghost use Rattle.game.specs.declared.player.Player.TheVariants.{Odd};
-ghost use Rattle.progress.specs.Proposal.{AreEnough, Falls, HasAsMuch, HasReasonsAt, HasReasonsFor, HeightFalls, IsGoodProposal, IsGoodVertex, AreGoodVertices, IsReason, IsRising, blank, counted_of, height_index, shift_at, with_height, with_value};
+ghost use Rattle.progress.specs.Proposal.{AreEnough, Falls, HasReasonsAt, HasReasonsFor, IsGoodProposal, IsGoodVertex, AreGoodVertices, IsReason, IsRising, blank, counted_of, height_index, shift_at, with_height, with_value};
 
 use crate::bounds::bounds;
 use crate::measure::Measure;
@@ -178,22 +178,6 @@ impl Proposal {
         2 * (self.values.width() - digit) + 1
     }
 
-    // Whether the height falls along an edge, at a vertex of this priority.
-    fn height_falls(&self, digit: usize, priority: u8, v: u32, next: u32) -> bool
-        requires digit { digit ≤ length (components self.now.game) }
-        requires vertex { v < length self.now.game.vertices }
-        requires next { next < length self.now.game.vertices }
-        ensures { IsTrue result ↔ HeightFalls self.now digit priority v next }
-    {
-        let own = self.counted(digit, priority, v);
-        let other = self.counted(digit, priority, next);
-        if priority % 2 == 1 {
-            other <= own
-        } else {
-            other < own
-        }
-    }
-
     // Whether something falls along an edge, at a vertex of this priority.
     fn falls(&self, game: &Game, digit: usize, priority: u8, v: u32, next: u32) -> bool
         requires same { self.now.game ≡ game.now }
@@ -202,23 +186,17 @@ impl Proposal {
         requires next { next < length self.now.game.vertices }
         ensures { IsTrue result ↔ Falls self.now digit priority v next }
     {
-        self.groups[next as usize] < self.groups[v as usize]
-            || self.height_falls(digit, priority, v, next)
+        if self.groups[next as usize] < self.groups[v as usize]
             || game.priority(next) as usize >= self.counted_at(digit)
-    }
-
-    // Whether at the end of an edge there is as much as at a vertex of this priority, up to a digit.
-    fn has_as_much(&self, game: &Game, digit: usize, priority: u8, v: u32, next: u32) -> bool
-        requires same { self.now.game ≡ game.now }
-        requires digit { digit ≤ length (components self.now.game) }
-        requires vertex { v < length self.now.game.vertices }
-        requires next { next < length self.now.game.vertices }
-        ensures { IsTrue result ↔ HasAsMuch self.now digit priority v next }
-    {
-        match self.values.compare_first(v as usize, next as usize, digit) {
-            Ordering::Less => true,
-            Ordering::Equal => self.falls(game, digit, priority, v, next),
-            Ordering::Greater => false,
+        {
+            return true;
+        }
+        let own = self.counted(digit, priority, v);
+        let other = self.counted(digit, priority, next);
+        if priority % 2 == 1 {
+            other <= own
+        } else {
+            other < own
         }
     }
 
@@ -230,14 +208,17 @@ impl Proposal {
         requires next { next < length self.now.game.vertices }
         ensures { IsTrue result ↔ IsReason self.now digit priority v next }
     {
-        if self.groups[next as usize] > self.groups[v as usize] {
+        let (from, to) = (v as usize, next as usize);
+        if self.groups[to] > self.groups[from] {
             return false;
         }
         match (priority as usize).cmp(&self.counted_at(digit)) {
-            Ordering::Less => self.has_as_much(game, digit, priority, v, next),
-            Ordering::Equal => self
-                .values
-                .has_all_but_one(v as usize, next as usize, digit),
+            Ordering::Less => match self.values.compare_first(from, to, digit) {
+                Ordering::Less => true,
+                Ordering::Equal => self.falls(game, digit, priority, v, next),
+                Ordering::Greater => false,
+            },
+            Ordering::Equal => self.values.has_all_but_one(from, to, digit),
             Ordering::Greater => false,
         }
     }
