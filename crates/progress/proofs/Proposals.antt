@@ -1,6 +1,6 @@
 -- Good proposals are least: no progress table has less than their values.
-use Rattle.progress.proofs.Common.{◌≡◌, ℕ, zero, suc, ◌+◌, ◌-◌, ◌/◌, ◌<◌, ◌≤◌, ◌⊎◌, Bool, true, false, List, length, refl, sym, ap, subst, ◌∙◌, inl, inr}
-use Rattle.progress.proofs.Common.{arith, MatchBool, Some, eqb_tells, leb_tells, get_or_past, Ordering, Less, Equal, Greater, is_le, is_lt}
+use Rattle.progress.proofs.Common.{◌≡◌, ℕ, zero, suc, ◌+◌, ◌-◌, ◌/◌, ◌<◌, ◌≤◌, ◌⊎◌, true, false, List, length, refl, sym, ap, subst, ◌∙◌, inl, inr}
+use Rattle.progress.proofs.Common.{arith, true≢false, Some, eqb_tells, leb_tells, get_or_past, Ordering, Less, Equal, Greater, is_le, is_lt}
 use Rattle.progress.proofs.Common.{nat_cmp, Player, Even, Odd, Vertex, Game, IsGame, greatest, vertex, priority_at, greatest_met, components, measure_cmp, Measure, Top}
 use Rattle.progress.proofs.Common.{Counts, IsAtMost, IsBelow, IsMeasure, IsProgress, IsTable, Reaches, is_odd, kept, value_at, IsSettled}
 use Rattle.std.proofs.Common.{◌^◌, div-mul-le_self}
@@ -27,10 +27,6 @@ up_to m r P Q = by (measure_cmp m r) refl
     by Less e h = inl (ap is_lt e)
     by Equal e h = inr (ap is_le e, h)
     by Greater e h = absurd h
-
-fallen_at_most : (b : Bool) (m n : ℕ) → MatchBool b (m ≤ n) (m < n) → m ≤ n
-fallen_at_most true m n h = h
-fallen_at_most false m n h = omega arith
 
 -- with fewer bits the order stays
 coarser : (a b j k : ℕ) → j ≤ k → a / 2 ^ j ≤ b / 2 ^ j → a / 2 ^ k ≤ b / 2 ^ k
@@ -244,11 +240,8 @@ module _ (c : Proposal) (game : IsGame c.game) (progress : IsProgress c.game c.v
           height = elim tied.falls [
             | inl b ↦ absurd (not_below (cut k (high u)) (cut k (high t)) b (l.value (low_falls u t s)))
             | inr f ↦ elim f [
-              | inl other ↦ elim other [
-                | inl n ↦ (let m = l.group in absurd (omega arith))
-                | inr past ↦ (let before = l.before (low_falls u t s) tied.before in absurd (omega arith))
-              ]
-              | inr h ↦ h
+              | inl n ↦ (let m = l.group in absurd (omega arith))
+              | inr rest ↦ elim rest [ inl h ↦ h | inr past ↦ (let before = l.before (low_falls u t s) tied.before in absurd (omega arith)) ]
             ]
           ];
         }
@@ -264,15 +257,11 @@ module _ (c : Proposal) (game : IsGame c.game) (progress : IsProgress c.game c.v
         ]
       where
         weakly : (q u t : ℕ) → Flat u t → priority g u ≤ q → counted_of c k q t ≤ counted_of c k q u
-        weakly q u t s h =
-            let p = priority g u in
-            coarser _ _ (shift_at c p) (shift_at c q) (rises c good.rising q p h)
-            (fallen_at_most (is_odd p) (counted_of c k p t) (counted_of c k p u) s.height)
+        weakly q u t s h = coarser _ _ (shift_at c (priority g u)) (shift_at c q) (rises c good.rising q (priority g u) h)
+            (elim s.height [ inl l ↦ omega arith | inr w ↦ (let e = w.0 in omega arith) ])
 
         strictly : (u t : ℕ) → Flat u t → is_odd (priority g u) ≡ false → counted_of c k (priority g u) t < counted_of c k (priority g u) u
-        strictly u t s e =
-            let p = priority g u in
-            subst (λ b. MatchBool b (counted_of c k p t ≤ counted_of c k p u) (counted_of c k p t < counted_of c k p u)) e s.height
+        strictly u t s e = elim s.height [ inl l ↦ l | inr w ↦ absurd (true≢false (sym w.1 ∙ e)) ]
 
   empty : (k : ℕ) → k ≤ length (components g) → (v : ℕ) → Above k v → ⊥
   empty zero within = none_above 0 within (λ j v e above. absurd cc)

@@ -1,5 +1,5 @@
 -- Proposals: a value for each vertex of a game, with reasons that can be tested in one pass over the vertices.
-use Rattle.std.specs.Prelude.{◌≡◌, ◌≢◌, ◌<◌, ◌≤◌, ◌⊎◌, ℕ, suc, ◌+◌, ◌-◌, ◌*◌, ◌/◌, ◌^◌, List, Contains, MatchBool, Some, length, min, replicate, slice_index}
+use Rattle.std.specs.Prelude.{◌≡◌, ◌≢◌, ◌<◌, ◌≤◌, ◌⊎◌, ℕ, suc, ◌+◌, ◌-◌, ◌*◌, ◌/◌, ◌^◌, List, Contains, Some, true, length, min, replicate, slice_index}
 use Rattle.std.specs.Prelude.{slice_index_or, slice_set}
 use Rattle.std.specs.Ordering.{nat_cmp}
 use Rattle.std.specs.declared.cmp.Ordering.{Ordering}
@@ -54,17 +54,17 @@ IsRising c = (p : ℕ) → shift_at c p ≤ shift_at c (suc p)
 abbrev pub counted_of : Proposal → (digit p v : ℕ) → ℕ
 counted_of c digit p v = slice_index c.heights (height_index c digit v) / 2 ^ shift_at c p
 
--- From v, a vertex of this priority, on to t what counts of the height doesn't rise, and falls where the priority is even.
-abbrev pub HeightFalls : Proposal → (digit p v t : ℕ) → Type 0
-HeightFalls c digit p v t = MatchBool (is_odd p) (counted_of c digit p t ≤ counted_of c digit p v) (counted_of c digit p t < counted_of c digit p v)
-
 abbrev pub group_at : Proposal → ℕ → ℕ
 group_at c v = slice_index c.groups v
 
--- From v on to t the group falls, or the priority at t isn't below that of the digit, or the height falls.
+-- From v, a vertex of this priority, on to t what counts of the height falls, or stays where the priority is odd.
+abbrev pub HeightFalls : Proposal → (digit p v t : ℕ) → Type 0
+HeightFalls c digit p v t =
+    (counted_of c digit p t < counted_of c digit p v) ⊎ ((counted_of c digit p t ≡ counted_of c digit p v) × (is_odd p ≡ true))
+
+-- The group falls, or the height does, or the priority at t isn't below that of the digit.
 abbrev pub Falls : Proposal → (digit p v t : ℕ) → Type 0
-Falls c digit p v t =
-    ((group_at c t < group_at c v) ⊎ (counted_at c.game digit ≤ priority_at (vertex c.game t))) ⊎ HeightFalls c digit p v t
+Falls c digit p v t = (group_at c t < group_at c v) ⊎ (HeightFalls c digit p v t ⊎ (counted_at c.game digit ≤ priority_at (vertex c.game t)))
 
 -- the first for what is less, the second for what is equal, and nothing for what is greater
 abbrev pub MatchUpTo : Ordering → Type 0 → Type 0 → Type 0

@@ -186,18 +186,14 @@ impl Proposal {
         requires next { next < length self.now.game.vertices }
         ensures { IsTrue result ↔ Falls self.now digit priority v next }
     {
-        if self.groups[next as usize] < self.groups[v as usize]
-            || game.priority(next) as usize >= self.counted_at(digit)
-        {
+        if self.groups[next as usize] < self.groups[v as usize] {
             return true;
         }
         let own = self.counted(digit, priority, v);
         let other = self.counted(digit, priority, next);
-        if priority % 2 == 1 {
-            other <= own
-        } else {
-            other < own
-        }
+        other < own
+            || (other == own && priority % 2 == 1)
+            || game.priority(next) as usize >= self.counted_at(digit)
     }
 
     // Whether an edge is a reason for what the value of a vertex of this priority has at a digit.
