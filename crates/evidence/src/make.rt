@@ -133,8 +133,9 @@ fn solve_dual(
     requires settled { settled.now.game ≡ game.now }
     ensures { IfOk result (λ s. s.game ≡ turned.now) }
 {
+    let vertices = game.vertices();
     let mut table = opening(alloc, turned)?;
-    for v in 0..game.vertices() {
+    for v in 0..vertices {
         raise_dual(game, settled, &mut table, v);
     }
     Ok(solve_one_from(turned, table, &Silent))
