@@ -82,10 +82,7 @@ impl Place {
 
     // How far a step has come, where that is known.
     fn tell_progress(&self, step: Activity, told: &mut Told) {
-        if let Activity::Seen(Stage::Counting { priority, .. }) = step {
-            told.words(", down to priority ");
-            told.amount(u64::from(priority), "");
-        } else if let Some(reading) = self.gauge.reading() {
+        if let Some(reading) = self.gauge.reading() {
             tell_reading(step, reading, told);
         }
     }

@@ -44,10 +44,8 @@ impl Activity {
     fn goes_on(self, other: Activity) -> bool {
         match (self, other) {
             (Activity::Seen(Stage::Lifting { .. }), Activity::Seen(Stage::Lifting { .. }))
-            | (
-                Activity::Seen(Stage::Searching { .. } | Stage::Counting { .. }),
-                Activity::Seen(Stage::Searching { .. } | Stage::Counting { .. }),
-            ) => true,
+            | (Activity::Seen(Stage::Searching { .. }), Activity::Seen(Stage::Searching { .. })) =>
+                { true },
             _ => false,
         }
     }
@@ -183,7 +181,7 @@ fn words_of(stage: Stage) -> &'static str {
         Stage::ReadingSystem => "reading the system",
         Stage::ReadingFormula => "reading the formula",
         Stage::Building { .. } => "building",
-        Stage::Searching { .. } | Stage::Counting { .. } => "searching",
+        Stage::Searching { .. } => "searching",
         Stage::Lifting { .. } => "lifting",
         Stage::Evaluating { .. } => "evaluating by sets",
         Stage::MakingEvidence { .. } => "making evidence",
@@ -199,7 +197,6 @@ fn tell_amount(stage: Stage, told: &mut Told) {
             told.amount(u64::from(states), " states");
         }
         Stage::Searching { vertices }
-        | Stage::Counting { vertices, .. }
         | Stage::Lifting { vertices, .. }
         | Stage::MakingEvidence { vertices } => {
             told.words(", ");

@@ -16,13 +16,12 @@ pub use Rattle.std.proofs.lemmas.Bool.Decides.{eqb_tells, leb_tells}
 pub use Rattle.std.specs.List.{AllByRecursion, AllZip, range_with_len}
 pub use Rattle.game.specs.declared.player.Player.TheVariants.{Even, Odd}
 pub use Rattle.game.specs.declared.player.Player.{Player}
-pub use Rattle.progress.specs.View.{ArePut, HasWidth, ReachesAt, Rows, counts_of, is_top_of, measure_of, rows_of}
+pub use Rattle.progress.specs.View.{HasWidth, ReachesAt, Rows, counts_of, is_top_of, measure_of, rows_of}
 pub use Rattle.std.proofs.lemmas.Option.{get_or_from_slice_get, slice_get-get_or, slice_get-map, slice_get_cases, slice_get_within}
 pub use Rattle.game.specs.Wins.{Edge, IsOf, IsStrategy, OddWins, Wins, WinsBy, greatest_met, priority_at}
 pub use Rattle.progress.specs.Tables.{IsOpening, IsPlain, IsSettled, IsTableStored, LiesBelow, GameTable}
 pub use Rattle.progress.specs.Lifting.{AreLifts, AreRises, IsLifted, code, decode, height, rank, lists_up_to, sum_of, total}
-pub use Rattle.progress.specs.Claim.{AreEntered, AreRaised, Claim, DescendsAlong, Claimed, GoesOn, IsGoodAt, IsGoodClaim, IsGoodEntry, IsGoodFrom, claimed_at}
-pub use Rattle.progress.specs.Claim.{claimed_entry, raised_by, value_or}
+pub use Rattle.progress.specs.Claim.{Claimed, GoesOn, IsGoodClaim, IsGoodEntry, claimed_at, claimed_entry, value_or}
 pub use Rattle.std.proofs.lemmas.Slice.Zip.{AllZip-long}
 pub use Rattle.progress.specs.Progs.{AreAtBounds, IsBetter, IsDemandOf, IsLiftOf, IsProgAt, IsProgUnder, bounds}
 pub use Rattle.std.specs.Ordering.{is_gt, is_le, is_lt, nat_cmp}

@@ -1,8 +1,12 @@
 -- Different places of a list at which a test passes are at most as many as it counts.
 use Rattle.progress.proofs.Common.{◌≡◌, ◌≢◌, ℕ, zero, suc, ◌≤◌, Bool, true, false, List, [], ◌∷◌, length, refl, sym, ap, ◌∙◌, arith, true≢false, count_by}
 use Rattle.progress.proofs.Common.{Some, slice_get, AllByRecursion}
-pub use Rattle.progress.specs.StoredClaim.{Apart}
 use Rattle.progress.proofs.Lists.{count_yes, count_no}
+
+-- no two are equal
+abbrev pub Apart : List ℕ → Type 0
+Apart [] = Unit {0}
+Apart (x ∷ xs) = AllByRecursion (λ y. x ≢ y) xs × Apart xs
 
 -- the places in what follows the first
 abbrev lowered : List ℕ → List ℕ

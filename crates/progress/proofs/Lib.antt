@@ -6,6 +6,7 @@ pub mod Searches
 pub mod Lifts
 pub mod Cycles
 pub mod TableWins
+pub mod Lost
 pub mod Distinct
 pub mod Rests
 pub mod Visits
@@ -28,9 +29,8 @@ pub mod Opening
 pub mod Lifting
 pub mod Dual
 pub mod Claims
-pub mod Putting
-pub mod StoredClaims
-pub mod Jumping
+pub mod Places
+pub mod DualWidth
 pub mod Joined
 pub mod Rising
 pub mod Rounds

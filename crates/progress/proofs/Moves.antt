@@ -10,7 +10,7 @@ use Rattle.progress.proofs.Lists.{all_from, all_got, zip_on}
 use Rattle.progress.proofs.Measures.{at_most_itself, at_most_or_below, at_most_trans, below_at_most, not_below, own_greater, prog, prog_more, reaches_up}
 use Rattle.progress.proofs.Monotone.{LiesUnder, best_more}
 use Rattle.progress.proofs.Plain.{value_set_other, value_set_same}
-use Rattle.progress.proofs.Putting.{place_contained}
+use Rattle.progress.proofs.Places.{place_contained}
 
 ascending_at : (xs : List ℕ) (i j : ℕ) → IsAscending xs → i ≤ j → j < length xs → slice_index xs i ≤ slice_index xs j
 ascending_at [] i j up le h = absurd (omega arith)

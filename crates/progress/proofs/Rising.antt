@@ -1,8 +1,7 @@
 -- Tables that only rise.
-use Rattle.progress.proofs.Common.{◌<◌, ℕ, List, length, sym, subst, inl, inr, slice_set, eqb_tells, Measure, IsAtMost, value_at, Option, None, Some}
-use Rattle.progress.proofs.Common.{AreRaised, Claimed, claimed_entry, raised_by}
+use Rattle.progress.proofs.Common.{◌<◌, ℕ, List, length, sym, subst, inl, inr, slice_set, eqb_tells, Measure, IsAtMost, value_at}
 use Rattle.progress.proofs.Measures.{at_most_itself, at_most_trans}
-use Rattle.progress.proofs.Monotone.{LiesUnder, greater_rises}
+use Rattle.progress.proofs.Monotone.{LiesUnder}
 use Rattle.progress.proofs.Plain.{value_set_other, value_set_same}
 
 pub under_itself : (table : List Measure) → LiesUnder table table
@@ -17,10 +16,3 @@ set_under values v m inside low u = elim (eqb_tells u v) [
       (subst (IsAtMost (value_at values v)) (sym (value_set_same values v m inside)) low)
   | inr w ↦ subst (IsAtMost (value_at values u)) (sym (value_set_other values v u m w.1)) (at_most_itself (value_at values u))
 ]
-
-raised_rises : (m : Measure) (o : Option Claimed) → IsAtMost m (raised_by m o)
-raised_rises m None = at_most_itself m
-raised_rises m (Some x) = greater_rises m x.value
-
-pub raised_under : (old new : List Measure) (entries : List (Option Claimed)) → AreRaised old entries new → LiesUnder old new
-raised_under old new entries raised v = subst (IsAtMost (value_at old v)) (sym (raised v)) (raised_rises (value_at old v) (claimed_entry entries v))

@@ -1,20 +1,15 @@
 -- Claims: values for some vertices, with reasons that can be tested vertex by vertex.
-use Rattle.std.specs.Prelude.{◌≡◌, ◌↔◌, ℕ, ◌+◌, Bool, List, MatchBool, Contains, IsSome, Option, Some, None, slice_index_or}
+use Rattle.std.specs.Prelude.{◌≡◌, ℕ, ◌+◌, List, Contains, Option, Some, None, slice_index_or}
 use Rattle.game.specs.declared.player.Player.TheVariants.{Odd}
 use Rattle.game.specs.Game.{Game, Vertex, dual, vertex}
 use Rattle.progress.specs.Measure.{Counts, IsAtMost, IsMeasure, IsProg, Measure, Reaches}
-use Rattle.progress.specs.Progress.{greater_of, value_at}
+use Rattle.progress.specs.Progress.{value_at}
 
 -- what is claimed of a vertex: a value, where Odd goes on from it, and a rank, with a count for each component of the dual game
 pub record Claimed : Type 0 where
   pub value : Measure
   pub move : ℕ
   pub rank : List ℕ
-
--- a claim names its game, and has for each vertex an entry or none
-pub record Claim : Type 0 where
-  pub game : Game
-  pub entries : List (Option Claimed)
 
 abbrev pub claimed_entry : List (Option Claimed) → ℕ → Option Claimed
 claimed_entry entries v = slice_index_or entries v None
@@ -49,28 +44,3 @@ IsGoodAt g values entries v = (x : Claimed) → claimed_entry entries v ≡ Some
 
 abbrev pub IsGoodClaim : Game → List Measure → List (Option Claimed) → Type 0
 IsGoodClaim g values entries = (v : ℕ) → IsGoodAt g values entries v
-
--- the greater of the two, where something is claimed
-abbrev pub raised_by : Measure → Option Claimed → Measure
-raised_by m None = m
-raised_by m (Some x) = greater_of m x.value
-
--- Each value is raised to what is claimed of its vertex.
-abbrev pub AreRaised : List Measure → List (Option Claimed) → List Measure → Type 0
-AreRaised old entries new = (v : ℕ) → value_at new v ≡ raised_by (value_at old v) (claimed_entry entries v)
-
--- All values are raised, or the table is as it was.
-abbrev pub Jumps : List Measure → List (Option Claimed) → List Measure → Bool → Type 0
-Jumps old entries new result = MatchBool result (AreRaised old entries new) (new ≡ old)
-
--- these are the vertices that have entries
-abbrev pub AreEntered : List (Option Claimed) → List ℕ → Type 0
-AreEntered entries vertices = (v : ℕ) → IsSome (claimed_entry entries v) ↔ Contains vertices v
-
--- An edge of the entry at v is good, if there is one.
-abbrev pub IsGoodFrom : Game → List Measure → List (Option Claimed) → ℕ → ℕ → ℕ → Type 0
-IsGoodFrom g values entries p v t = (x : Claimed) → claimed_entry entries v ≡ Some x → IsGoodEdge g values entries p x t
-
--- Along an edge from v to t the rank does as it should at a vertex of this priority, where both have entries.
-abbrev pub DescendsAlong : Claim → ℕ → ℕ → ℕ → Type 0
-DescendsAlong c p v t = (x y : Claimed) → claimed_entry c.entries v ≡ Some x → claimed_entry c.entries t ≡ Some y → Reaches (dual c.game) (p + 1) (Counts y.rank) (Counts x.rank)

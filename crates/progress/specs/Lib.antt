@@ -3,7 +3,6 @@ pub mod MeasureText
 pub mod Progress
 pub mod Lifting
 pub mod Claim
-pub mod StoredClaim
 pub mod Laws
 pub mod View
 pub mod Progs

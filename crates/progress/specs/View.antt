@@ -1,5 +1,5 @@
 -- How measures are stored.
-use Rattle.std.specs.Prelude.{◌≡◌, ◌↔◌, ◌⊎◌, Contains, IsTrue, ℕ, Bool, true, false, List, [], ◌∷◌, drop, length, take, if◌then◌else◌}
+use Rattle.std.specs.Prelude.{◌≡◌, ◌↔◌, IsTrue, ℕ, Bool, true, false, List, [], ◌∷◌, drop, length, take, if◌then◌else◌}
 use Rattle.game.specs.Game.{Game}
 use Rattle.progress.specs.Measure.{Measure, Top, Counts, Reaches, components}
 use Rattle.progress.specs.Progress.{value_at}
@@ -35,10 +35,3 @@ HasWidth width (Counts counts) = length counts ≡ width
 -- in each game with so many components the value of one place reaches that of the other, at this priority
 abbrev pub ReachesAt : Rows → ℕ → ℕ → ℕ → Bool → Type 0
 ReachesAt r p next v result = (g : Game) → length (components g) ≡ r.width → (IsTrue result ↔ Reaches g p (value_at r.values next) (value_at r.values v))
-
--- In these places there is top, and elsewhere top or what there was.
-pub record ArePut (old : Rows) (places : List ℕ) (new : Rows) : Type 0 where
-  pub width : new.width ≡ old.width
-  pub long : length new.values ≡ length old.values
-  pub put : (v : ℕ) → Contains places v → value_at new.values v ≡ Top
-  pub left : (v : ℕ) → (value_at new.values v ≡ Top) ⊎ (value_at new.values v ≡ value_at old.values v)

@@ -35,7 +35,7 @@ pub fn width(game: &Game) -> usize
 }
 
 /// How many components the dual game has.
-#[tactic(auto, using(crate::proofs::StoredClaims::dual_long, crate::proofs::StoredClaims::dual_none))]
+#[tactic(auto, using(crate::proofs::DualWidth::dual_long, crate::proofs::DualWidth::dual_none))]
 pub(crate) fn dual_width(game: &Game) -> usize
     ensures { result ≡ length (components (dual game.now)) }
 {

@@ -2,7 +2,6 @@
 #![tactic(auto)]
 
 pub mod bounds;
-pub mod claim;
 pub mod measure;
 pub mod observer;
 mod pending;

@@ -11,10 +11,8 @@ pub enum Stage {
     ReadingFormula,
     /// The game of a system with so many states is built.
     Building { states: u32 },
-    /// What Odd wins is searched for in a game with so many vertices.
+    /// Who wins, or the least progress table, is searched for in a game with so many vertices.
     Searching { vertices: u32 },
-    /// The search counts what Odd can force at vertices of this odd priority, from the greatest down to 1.
-    Counting { vertices: u32, priority: u8 },
     /// A game with so many vertices is lifted, and so many lifts were done.
     Lifting { vertices: u32, lifts: u64 },
     /// The formula is evaluated by sets of a system's states, of which there are so many.

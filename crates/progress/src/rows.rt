@@ -6,7 +6,7 @@ ghost use Rattle.progress.specs.Progress.{IsBestFor, IsTable, value_at};
 ghost use Rattle.progress.specs.Progs.{IsAtMostProg, IsProgUnder};
 ghost use Rattle.progress.specs.Settling.{IsStill};
 ghost use Rattle.std.specs.List.{AllByRecursion};
-ghost use Rattle.progress.specs.View.{ArePut, HasWidth, ReachesAt, Rows, is_top_of, measure_of};
+ghost use Rattle.progress.specs.View.{HasWidth, ReachesAt, Rows, is_top_of, measure_of};
 
 use crate::measure::{COMPONENTS, Measure, compare, compare_counts};
 use crate::progs::{is_better, prog_of};
@@ -228,16 +228,6 @@ impl Rows {
             self.tops[v] = true;
         } else {
             self.set_counts(v, m.counts());
-        }
-    }
-
-    /// Puts top in these places.
-    pub(crate) fn put_top(&mut self, places: &[u32])
-        requires { AllByRecursion (λ v. v < length self.old.values) places.now }
-        ensures { ArePut self.old places.now self.new }
-    {
-        for v in places {
-            self.set(*v as usize, &Measure::top());
         }
     }
 

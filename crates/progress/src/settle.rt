@@ -3,15 +3,12 @@
 ghost use Rattle.std.specs.Prelude.{◌≡◌, ◌<◌, ◌≤◌, ◌*◌, ◌↔◌, IsTrue, length};
 ghost use Rattle.game.specs.Wins.{Wins};
 ghost use Rattle.progress.specs.Lifting.{height, sum_of};
-ghost use Rattle.progress.specs.Progress.{IsLeastTable, IsProgress, LiesUnder};
+ghost use Rattle.progress.specs.Progress.{IsLeastTable, IsProgress};
 ghost use Rattle.progress.specs.Settling.{Sweeps};
 
 use crate::observer::{Lifts, Observer, Silent};
 use crate::table::{PlainTable, Settled};
 use game::graph::Game;
-
-/// How often each vertex is lifted, taken together, before a search begins: most games are settled by then, in less time than it takes.
-const FIRST_LIFTS: u64 = 2;
 
 // Lifts each vertex once. The answer says whether one rose.
 fn sweep<O: Observer>(game: &Game, table: &mut PlainTable, lifts: &mut Lifts<'_, O>) -> bool
@@ -89,24 +86,6 @@ pub fn is_settled(game: &Game, table: &PlainTable) -> bool
         }
     }
     true
-}
-
-/// Lifts the vertices that may rise, a few times each at most. The answer says whether none is left: then a search is of no use.
-#[tactic(auto, using(crate::proofs::Rising::under_itself))]
-pub fn lift_ahead(game: &Game, table: &mut PlainTable) -> bool
-    requires { table.old.game ≡ game.now }
-    ensures game { table.new.game ≡ game.now }
-    ensures kept { LiesUnder table.old.values table.new.values }
-{
-    for _ in 0..FIRST_LIFTS * u64::from(game.vertices()) {
-        match table.next_pending() {
-            Some(v) if v < game.vertices() => {
-                table.lift_at(game, v);
-            }
-            _ => return true,
-        }
-    }
-    false
 }
 
 /// Whether Even wins a vertex.

@@ -3,7 +3,7 @@
 ghost use Rattle.std.specs.Prelude.{◌≡◌, ◌≢◌, ◌<◌, ◌↔◌, ℕ, Contains, IsSome, IsTrue, Some, length, option_map, slice_set, IfOk};
 ghost use Rattle.std.specs.List.{AllByRecursion};
 ghost use Rattle.game.specs.Game.{vertex};
-ghost use Rattle.progress.specs.Claim.{AreRaised, Claimed, IsGoodAt, IsGoodClaim, IsGoodFrom, Jumps, claimed_at, claimed_entry};
+ghost use Rattle.game.specs.Wins.{Wins};
 ghost use Rattle.progress.specs.Laws.{IsBestSuccessor};
 ghost use Rattle.progress.specs.Measure.{Counts, IsProg, Top};
 ghost use Rattle.progress.specs.Progress.{IsProgress, LiesUnder, greater_of, opening as opening_of, value_at};
@@ -11,7 +11,6 @@ ghost use Rattle.progress.specs.Settling.{IsStill, LiftsAt};
 ghost use Rattle.progress.specs.Tables.{IsOpening, IsPlain, IsSettled, IsStoredSettled, LiesBelow};
 
 use crate::bounds::bounds;
-use crate::claim::Claim;
 use crate::measure::Measure;
 use crate::pending::Pending;
 use crate::progs::prog_of;
@@ -141,6 +140,18 @@ impl PlainTable {
         }
     }
 
+    /// Leaves top where Even doesn't win.
+    #[tactic(auto, using(crate::proofs::Lost::lost_below))]
+    pub fn raise_lost(&mut self, v: u32)
+        requires vertex { v < length self.old.game.vertices }
+        requires lost { Wins self.old.game v → ⊥ }
+        ensures game { self.new.game ≡ self.old.game }
+        ensures values { self.new.values ≡ slice_set self.old.values v (greater_of (value_at self.old.values v) Top) }
+    {
+        self.known();
+        self.raise(v, &Measure::top());
+    }
+
     /// Whether no lift raises a vertex.
     pub(crate) fn is_still(&self, game: &Game, v: u32) -> bool
         requires same { self.now.game ≡ game.now }
@@ -163,13 +174,11 @@ impl PlainTable {
     }
 
     /// Raises a vertex to its lift. The answer says whether it rose.
-    #[tactic(auto, using(crate::proofs::Rising::under_itself))]
     pub(crate) fn lift_at(&mut self, game: &Game, v: u32) -> bool
         requires same { self.old.game ≡ game.now }
         requires vertex { v < length game.now.vertices }
         ensures game { self.new.game ≡ game.now }
         ensures lifts { LiftsAt game.now v self.old.values self.new.values result }
-        ensures kept { LiesUnder self.old.values self.new.values }
     {
         let priority = game.priority(v);
         let best = self.rows.best(game.owner(v), game.successors(v)) as usize;
@@ -179,117 +188,6 @@ impl PlainTable {
         let risen = self.prog_of(priority, best);
         self.rows.set(v as usize, &risen);
         self.pending.note(v);
-        true
-    }
-
-    // What a vertex of this priority asks for where its play goes on at another one, by what is claimed of that one, if it
-    // has an entry.
-    fn claimed_prog(&self, claim: &Claim, priority: u8, next: u32) -> Measure
-        requires same { self.now.game ≡ claim.now.game }
-        requires next { next < length self.now.game.vertices }
-        ensures { IsProg self.now.game priority (claimed_at self.now.values claim.now.entries next) result }
-    {
-        if claim.has(next) {
-            claim.prog_of(self.bounds.as_slice(), priority, next)
-        } else {
-            self.prog_of(priority, next as usize)
-        }
-    }
-
-    // Whether an edge of an entry is good, at a vertex of this priority.
-    fn is_good_edge(&self, claim: &Claim, priority: u8, v: u32, next: u32) -> bool
-        requires same { self.now.game ≡ claim.now.game }
-        requires vertex { v < length self.now.game.vertices }
-        requires entry { IsSome (claimed_entry claim.now.entries v) }
-        requires next { next < length self.now.game.vertices }
-        requires priority { priority < 255 }
-        ensures { IsTrue result ↔ IsGoodFrom self.now.game self.now.values claim.now.entries priority v next }
-    {
-        claim.is_at_most(v, &self.claimed_prog(claim, priority, next))
-            && claim.descends(priority, v, next)
-    }
-
-    // Whether each of these edges is.
-    fn are_good_edges(&self, claim: &Claim, priority: u8, v: u32, successors: &[u32]) -> bool
-        requires same { self.now.game ≡ claim.now.game }
-        requires vertex { v < length self.now.game.vertices }
-        requires entry { IsSome (claimed_entry claim.now.entries v) }
-        requires inside { AllByRecursion (λ t. t < length self.now.game.vertices) successors.now }
-        requires priority { priority < 255 }
-        ensures { IsTrue result ↔ ((t : ℕ) → Contains successors.now t → IsGoodFrom self.now.game self.now.values claim.now.entries priority v t) }
-    {
-        for t in successors {
-            if !self.is_good_edge(claim, priority, v, *t) {
-                return false;
-            }
-        }
-        true
-    }
-
-    // Whether the entry of a vertex is good.
-    fn is_good_entry(&self, game: &Game, claim: &Claim, v: u32) -> bool
-        requires same { self.now.game ≡ game.now }
-        requires claim { claim.now.game ≡ game.now }
-        requires vertex { v < length game.now.vertices }
-        requires entry { IsSome (claimed_entry claim.now.entries v) }
-        ensures { IsTrue result ↔ IsGoodAt game.now self.now.values claim.now.entries v }
-    {
-        game.known();
-        claim.known();
-        let priority = game.priority(v);
-        let successors = game.successors(v);
-        match game.owner(v) {
-            Player::Even => self.are_good_edges(claim, priority, v, successors),
-            Player::Odd => {
-                let next = claim.next(v);
-                successors.contains(&next) && self.is_good_edge(claim, priority, v, next)
-            }
-        }
-    }
-
-    // Whether a claim is good over the table. It looks at each edge of each entry once.
-    fn is_good_claim(&self, game: &Game, claim: &Claim) -> bool
-        requires same { self.now.game ≡ game.now }
-        requires claim { claim.now.game ≡ game.now }
-        ensures { IsTrue result ↔ IsGoodClaim game.now self.now.values claim.now.entries }
-    {
-        for v in claim.vertices() {
-            if !self.is_good_entry(game, claim, *v) {
-                return false;
-            }
-        }
-        true
-    }
-
-    // Raises each value to what is claimed of its vertex.
-    fn raise_by(&mut self, claim: &Claim)
-        requires same { self.old.game ≡ claim.now.game }
-        requires below { (v : ℕ) (x : Claimed) → claimed_entry claim.now.entries v ≡ Some x → LiesBelow self.old.game v x.value }
-        ensures game { self.new.game ≡ self.old.game }
-        ensures raised { AreRaised self.old.values claim.now.entries self.new.values }
-    {
-        for v in claim.vertices() {
-            self.known();
-            self.raise(*v, &claim.value(*v));
-        }
-    }
-
-    /// Raises each value to what is claimed of its vertex, where the claim is good, and else leaves the table as it is. The
-    /// answer says whether it is good. It takes no memory, and looks at each edge of each entry once.
-    #[tactic(auto, using(crate::proofs::Claims::claims_lie_below, crate::proofs::Rising::raised_under, crate::proofs::Rising::under_itself))]
-    pub fn jump(&mut self, game: &Game, claim: &Claim) -> bool
-        requires same { self.old.game ≡ game.now }
-        requires claim { claim.now.game ≡ game.now }
-        ensures game { self.new.game ≡ game.now }
-        ensures good { IsTrue result ↔ IsGoodClaim game.now self.old.values claim.now.entries }
-        ensures jumps { Jumps self.old.values claim.now.entries self.new.values result }
-        ensures kept { LiesUnder self.old.values self.new.values }
-    {
-        self.known();
-        if !self.is_good_claim(game, claim) {
-            return false;
-        }
-        self.raise_by(claim);
         true
     }
 

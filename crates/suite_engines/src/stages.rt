@@ -41,10 +41,6 @@ impl Observer for Told {
             Stage::ReadingFormula => 10,
             Stage::Building { states: _ } => 100,
             Stage::Searching { vertices: _ } => 1_000,
-            Stage::Counting {
-                vertices: _,
-                priority: _,
-            } => 0,
             Stage::Lifting {
                 vertices: _,
                 lifts: _,

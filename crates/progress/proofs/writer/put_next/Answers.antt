@@ -1,4 +1,4 @@
-use Rattle.std.proofs.Common.{◌≡◌, ◌∙◌, List, [], ◌∷◌, ℕ, ap, arith, decimal, subst, sym}
+use Rattle.std.proofs.Common.{◌≡◌, ◌∙◌, [], ◌∷◌, ap, arith, decimal, subst, sym}
 use Rattle.std.proofs.lemmas.Fmt.{decimal_digit}
 use Rattle.text.specs.Wrote.{Wrote}
 use Rattle.progress.proofs.writer.put_next.Goals as goal

@@ -1,6 +1,6 @@
 use Rattle.progress.proofs.Common.{◌<◌, arith, length, refl, slice_index, All-from_recursion}
 use Rattle.progress.specs.Proposal.{IsReason}
-use Rattle.progress.proofs.Putting.{contained_from, more_places}
+use Rattle.progress.proofs.Places.{contained_from, more_places}
 use Rattle.progress.proofs.proposal.Proposal.are_reasons.Goals as goal
 
 pub loop-t-preserved : goal.loop-t-preserved

@@ -1,6 +1,6 @@
 use Rattle.progress.proofs.Common.{◌<◌, ◌∙◌, arith, length, refl, sym, slice_index, true≢false, All-from_recursion}
 use Rattle.progress.specs.Proposal.{IsReason}
-use Rattle.progress.proofs.Putting.{contained_from, more_places, place_contained}
+use Rattle.progress.proofs.Places.{contained_from, more_places, place_contained}
 use Rattle.progress.proofs.proposal.Proposal.have_reason.Goals as goal
 
 pub loop-t-preserved : goal.loop-t-preserved

@@ -1,5 +1,5 @@
 use Rattle.progress.proofs.Common.{arith}
-use Rattle.progress.proofs.StoredClaims.{dual_few}
+use Rattle.progress.proofs.DualWidth.{dual_few}
 use Rattle.progress.proofs.StoredProposals.{blank_stored, is_blank}
 use Rattle.progress.proofs.proposal.Proposal.new.Goals as goal
 

@@ -1,9 +1,7 @@
 use Rattle.progress.proofs.Common.{◌≡◌, ◌∙◌, ◌<◌, ap, length, refl, subst, sym, true≢false, Game, sum_of, IsProg, Reaches, value_at, IsStill, LiesBelow}
 use Rattle.progress.proofs.Common.{GameTable, Rows}
 use Rattle.progress.proofs.Plain.{measure_width, set_stored, stored_as, stored_width, value_here, values_there}
-use Rattle.progress.proofs.Monotone.{LiesUnder, lift_rises}
 use Rattle.progress.proofs.Reaching.{not_reached}
-use Rattle.progress.proofs.Rising.{set_under}
 use Rattle.progress.proofs.Settling.{lift_below, plain_table, risen_lift, still_from, sum_raised}
 use Rattle.progress.proofs.table.PlainTable.lift_at.Goals as goal
 
@@ -89,22 +87,3 @@ set-requires-clause-vertex c =
 
 pub prog_of-risen-requires : goal.prog_of-risen-requires
 prog_of-risen-requires c = subst (λ (t : GameTable). c.best-best.result < length t.values) c.self.view_is c.best-best.ensures.inside
-
-pub returns-clause-kept : goal.returns-clause-kept
-returns-clause-kept c =
-    let g = c.args.game.now in
-    let i = c.self.inside in
-    let values = i.rows.values in
-    let same : i.of.value ≡ g = ap (λ (t : GameTable). t.game) c.self.view_is ∙ c.requires.same in
-    let (plain, wide) = stored_as i.of.value g i.pending i.bounds.items i.rows.width values same c.self.invariant in
-    let reaches = c.reaches.ensures g wide in
-    let is = subst (λ (h : Game). IsProg h c.priority-priority.result (value_at values c.best-best.result) c.prog_of-risen.result) same
-    (subst (λ (t : GameTable). IsProg t.game c.priority-priority.result (value_at t.values c.best-best.result) c.prog_of-risen.result)
-    (sym c.self.view_is) c.prog_of-risen.ensures) in
-    let lift = risen_lift g values (plain_table g values plain) c.args.v c.requires.vertex c.owner.result c.priority-priority.result c.successors.result.now
-    c.best-best.result c.owner.ensures c.priority-priority.ensures c.successors.ensures
-    c.best-best.ensures.best c.prog_of-risen.result is (λ r. true≢false (sym (reaches.1 r) ∙ c.if-reaches.false)) in
-    let vertex = value_here i.of.value g values c.self.invariant.plain same c.args.v c.requires.vertex in
-    subst (λ (t : GameTable). LiesUnder t.values c.set.new.self.values) c.self.view_is
-    (subst (LiesUnder values) (sym (ap (λ (r : Rows). r.values) c.set.ensures))
-    (set_under values c.args.v c.prog_of-risen.result vertex (lift_rises g values c.args.v c.prog_of-risen.result lift)))
