@@ -11,6 +11,7 @@ use measures::settle::even_wins;
 use measures::table::Settled;
 use samples::games::push_row;
 use std::process::Abort;
+use std::thread::Threads;
 
 // The vertices that Even wins.
 #[derive(Clone, Copy)]
@@ -56,7 +57,11 @@ fn are_marks(game: &Game, wins: EvenWins, marks: &[bool]) -> bool {
 }
 
 // Whether evidence of just those is guessed, and the checker accepts it.
-fn is_certified(rt: &(impl Abort + AllocGlobal), game: &Game, wins: EvenWins) -> bool {
+fn is_certified(
+    rt: &(impl Abort + AllocGlobal + Threads + Sync),
+    game: &Game,
+    wins: EvenWins,
+) -> bool {
     let marks = certified(rt, game);
     let are_marks = are_marks(game, wins, marks.as_slice());
     drop(marks);
@@ -81,7 +86,11 @@ fn is_as_lifted(rt: &(impl Abort + AllocGlobal), game: &Game, settled: &Settled)
 }
 
 // The same where the game is so small that lifting alone ends soon, and then as it does.
-fn is_lifted(rt: &(impl Abort + AllocGlobal), game: &Game, wins: EvenWins) -> bool {
+fn is_lifted(
+    rt: &(impl Abort + AllocGlobal + Threads + Sync),
+    game: &Game,
+    wins: EvenWins,
+) -> bool {
     let settled = solved(rt, game);
     let is_lifted = are_won(game, &settled, wins) && is_as_lifted(rt, game, &settled);
     drop(settled);
@@ -89,7 +98,7 @@ fn is_lifted(rt: &(impl Abort + AllocGlobal), game: &Game, wins: EvenWins) -> bo
 }
 
 // Even has the even vertices, and Odd the odd ones.
-fn owner_of(v: u32) -> Player {
+pub(crate) fn owner_of(v: u32) -> Player {
     if v % 2 == 0 {
         Player::Even
     } else {
@@ -98,7 +107,7 @@ fn owner_of(v: u32) -> Player {
 }
 
 // A game gets one more vertex.
-fn push(
+pub(crate) fn push(
     rt: &impl Abort,
     builder: &mut GameBuilder,
     owner: Player,
@@ -108,7 +117,7 @@ fn push(
     push_row(builder, owner, priority, successors).expect(rt, "memory");
 }
 
-fn finished(rt: &impl Abort, builder: GameBuilder) -> Game {
+pub(crate) fn finished(rt: &impl Abort, builder: GameBuilder) -> Game {
     builder.finish().expect(rt, "a game")
 }
 
@@ -135,7 +144,7 @@ fn ladder(rt: &(impl Abort + AllocGlobal), rungs: u32) -> Game
     finished(rt, builder)
 }
 
-fn is_ladder_lifted(rt: &(impl Abort + AllocGlobal), rungs: u32)
+fn is_ladder_lifted(rt: &(impl Abort + AllocGlobal + Threads + Sync), rungs: u32)
     requires some { 1 < rungs }
     requires few { rungs ≤ 1_000_000 }
 {
@@ -190,7 +199,7 @@ fn clique(rt: &(impl Abort + AllocGlobal), vertices: u32) -> Game
     finished(rt, builder)
 }
 
-fn is_clique_lifted(rt: &(impl Abort + AllocGlobal), vertices: u32, wins: EvenWins)
+fn is_clique_lifted(rt: &(impl Abort + AllocGlobal + Threads + Sync), vertices: u32, wins: EvenWins)
     requires { vertices ≤ 33 }
 {
     let game = clique(rt, vertices);
@@ -269,7 +278,7 @@ fn climb(rt: &(impl Abort + AllocGlobal), rows: u8, width: u32, winner: Player) 
 static SMALL: [(u8, u32); 4] = [(1, 50), (2, 12), (3, 6), (4, 3)];
 
 fn is_climb_lifted(
-    rt: &(impl Abort + AllocGlobal),
+    rt: &(impl Abort + AllocGlobal + Threads + Sync),
     rows: u8,
     width: u32,
     winner: Player,
@@ -292,7 +301,7 @@ fn who_wins_at_the_end_of_a_way_wins_the_climb(rt: HostRuntime) {
 static LARGE: [(u8, u32); 3] = [(4, 100), (4, 20_000), (15, 1_000)];
 
 fn is_climb_certified(
-    rt: &(impl Abort + AllocGlobal),
+    rt: &(impl Abort + AllocGlobal + Threads + Sync),
     rows: u8,
     width: u32,
     winner: Player,

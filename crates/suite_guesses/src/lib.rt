@@ -21,5 +21,3 @@ mod nested_guesses;
 mod random_games;
 #[cfg(test)]
 mod rankings_by_hand;
-#[cfg(test)]
-mod shared_guesses;

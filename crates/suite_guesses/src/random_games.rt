@@ -13,6 +13,7 @@ use progress::observer::Silent;
 use samples::dice::Dice;
 use search::effort::Effort;
 use std::process::Abort;
+use std::thread::Threads;
 
 /// Whether two tables have the same measure at each vertex.
 pub(crate) fn is_same(game: &Game, settled: &Settled, table: &PlainTable) -> bool
@@ -69,8 +70,11 @@ pub(crate) fn is_marked(marks: &[bool], v: u32) -> bool {
 }
 
 /// The vertices that Even wins, by evidence that was guessed and that the checker accepts.
-pub(crate) fn certified(rt: &(impl Abort + AllocGlobal), game: &Game) -> Vec<bool> {
-    certified_winners(rt.alloc(), game, None).expect(rt, "good evidence")
+pub(crate) fn certified(
+    rt: &(impl Abort + AllocGlobal + Threads + Sync),
+    game: &Game,
+) -> Vec<bool> {
+    certified_winners(rt, rt.alloc(), game, 1, None).expect(rt, "good evidence")
 }
 
 // The same table, where a search may look at nothing.
@@ -93,7 +97,11 @@ fn is_lifted(rt: &(impl Abort + AllocGlobal), game: &Game, solved: &Settled) -> 
 }
 
 // Whether all ways leave this table, and evidence says the same.
-fn ends_alike(rt: &(impl Abort + AllocGlobal), game: &Game, solved: &Settled) -> bool
+fn ends_alike(
+    rt: &(impl Abort + AllocGlobal + Threads + Sync),
+    game: &Game,
+    solved: &Settled,
+) -> bool
     requires { solved.now.game ≡ game.now }
 {
     let marks = certified(rt, game);
@@ -110,7 +118,7 @@ fn searched(rt: &(impl Abort + AllocGlobal), game: &Game) -> PlainTable
 }
 
 // Whether claims leave nothing to lift. They raise what Odd wins to top, and all ways end alike.
-fn is_whole(rt: &(impl Abort + AllocGlobal), game: &Game, number: u32) -> bool {
+fn is_whole(rt: &(impl Abort + AllocGlobal + Threads + Sync), game: &Game, number: u32) -> bool {
     let first = searched(rt, game);
     let solved = solved(rt, game);
     let is_found = !can_climb(game) || are_claimed(game, &first, &solved);
@@ -122,7 +130,11 @@ fn is_whole(rt: &(impl Abort + AllocGlobal), game: &Game, number: u32) -> bool {
 }
 
 // How many of so many games at random have claims that leave nothing to lift.
-fn count_whole(rt: &(impl Abort + AllocGlobal), dice: &mut Dice, games: u32) -> u32 {
+fn count_whole(
+    rt: &(impl Abort + AllocGlobal + Threads + Sync),
+    dice: &mut Dice,
+    games: u32,
+) -> u32 {
     let mut whole = 0_u32;
     for number in 0..games {
         let vertices = 1 + dice.roll(16);
