@@ -2,9 +2,8 @@
 
 ghost use Rattle.std.specs.Prelude.{◌≡◌, ◌<◌, ◌≤◌, length};
 
-use crate::common::{holds, holds_for, solved};
+use crate::common::{certified, holds, holds_for, is_marked, solved};
 use crate::known_games::{finished, owner_of, push};
-use crate::random_games::is_marked;
 use certify::decide::certified_winners;
 use game::graph::{Game, GameBuilder};
 use game::player::Player;
@@ -51,10 +50,6 @@ static SHAPES: [Shape; 4] = [
         steps: 2,
     },
 ];
-
-fn certified(rt: &(impl Abort + AllocGlobal + Threads + Sync), game: &Game) -> Vec<bool> {
-    certified_winners(rt, rt.alloc(), game, 1, None).expect(rt, "good evidence")
-}
 
 // How many vertices Even wins.
 fn evens(rt: &(impl Abort + AllocGlobal + Threads + Sync), game: &Game) -> usize {

@@ -3,8 +3,7 @@
 
 ghost use Rattle.std.specs.Prelude.{◌≡◌, ◌<◌, ◌≤◌, length};
 
-use crate::common::{holds, holds_for, holds_for_both, lifted_alone, solved};
-use crate::random_games::{certified, is_marked, is_same};
+use crate::common::{certified, holds, holds_for, holds_for_both, is_marked, solved};
 use game::graph::{Game, GameBuilder};
 use game::player::Player;
 use measures::settle::even_wins;
@@ -75,26 +74,13 @@ fn is_solved(rt: &(impl Abort + AllocGlobal), game: &Game, wins: EvenWins) -> bo
     are_won
 }
 
-// Whether lifting alone leaves the same table.
-fn is_as_lifted(rt: &(impl Abort + AllocGlobal), game: &Game, settled: &Settled) -> bool
-    requires { settled.now.game ≡ game.now }
-{
-    let lifted = lifted_alone(rt, game);
-    let is_same = is_same(game, settled, &lifted);
-    drop(lifted);
-    is_same
-}
-
-// The same where the game is so small that lifting alone ends soon, and then as it does.
+// Whether lifting and certified evidence both say so, where the game is so small that lifting ends soon.
 fn is_lifted(
     rt: &(impl Abort + AllocGlobal + Threads + Sync),
     game: &Game,
     wins: EvenWins,
 ) -> bool {
-    let settled = solved(rt, game);
-    let is_lifted = are_won(game, &settled, wins) && is_as_lifted(rt, game, &settled);
-    drop(settled);
-    is_lifted && is_certified(rt, game, wins)
+    is_solved(rt, game, wins) && is_certified(rt, game, wins)
 }
 
 // Even has the even vertices, and Odd the odd ones.
@@ -159,7 +145,7 @@ fn on_a_ladder_each_wins_the_own_vertices(rt: HostRuntime) {
         is_ladder_lifted(&rt, rungs);
     }
     let game = ladder(&rt, 50_000);
-    holds!(&rt; is_solved(&rt, &game, EvenWins::Own) && is_certified(&rt, &game, EvenWins::Own));
+    holds!(&rt; is_certified(&rt, &game, EvenWins::Own));
     drop(game);
 }
 
