@@ -47,7 +47,10 @@ pub fn certified_winners<R: Threads + Sync>(
     ensures { IfSome result (λ marks. MarksOf (length game.now.vertices) marks.items (Wins game.now)) }
 {
     let pair = certified_evidence(rt, alloc, game, workers, gauge)?;
-    set_marks(alloc, game, &pair.even).ok()
+    match set_marks(alloc, game, &pair.even) {
+        Ok(marks) => Some(marks),
+        Err(AllocError) => None,
+    }
 }
 
 // The same pair, where the checker accepts it, no vertex is left out, and its texts can be read again.
