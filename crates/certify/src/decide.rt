@@ -7,17 +7,18 @@ ghost use Rattle.game.specs.Wins.{Wins};
 ghost use Rattle.evidence.specs.Evidence.{has};
 ghost use Rattle.evidence.specs.Laws.{IsSmall};
 
-use crate::guessed::pair_of;
+use crate::guessed::guessed_pair;
+use crate::hands::hands;
 use crate::pair::EvidencePair;
 use crate::small::is_small;
 use evidence::evidence::Evidence;
 use evidence::law::evidence_text_spells;
+use evidence::spans::check_both_by;
 use evidence::verdict::Both;
-use evidence::verify::check_both;
 use game::graph::Game;
 use gauge::Gauge;
 use std::alloc::{AllocError, Global};
-use winners::guess::{guess_soonest, guess_winners};
+use std::thread::Threads;
 
 /// A mark for each vertex that Even's evidence has.
 ///
@@ -35,32 +36,31 @@ pub fn set_marks(alloc: Global, game: &Game, even: &Evidence) -> Result<Vec<bool
     Ok(marks)
 }
 
-// The marks of the vertices that Even's evidence has, where the checker accepts it beside Odd's, and no vertex is left out.
-fn checked_marks(alloc: Global, game: &Game, pair: &EvidencePair) -> Option<Vec<bool>>
-    requires { AreOf game.now pair.now }
+/// A mark for each vertex, true where Even wins it, by evidence that is guessed. There is none where there is no such evidence, or for want of memory.
+pub fn certified_winners<R: Threads + Sync>(
+    rt: &R,
+    alloc: Global,
+    game: &Game,
+    workers: usize,
+    gauge: Option<&Gauge>,
+) -> Option<Vec<bool>>
     ensures { IfSome result (λ marks. MarksOf (length game.now.vertices) marks.items (Wins game.now)) }
 {
-    match check_both(game, &pair.even, &pair.odd) {
-        Both::Yes => match set_marks(alloc, game, &pair.even) {
-            Ok(marks) => Some(marks),
-            Err(AllocError) => None,
-        },
-        _ => None,
+    let pair = certified_evidence(rt, alloc, game, workers, gauge)?;
+    match set_marks(alloc, game, &pair.even) {
+        Ok(marks) => Some(marks),
+        Err(AllocError) => None,
     }
 }
 
-/// A mark for each vertex, true where Even wins it, by a guess of winners, moves and ranks. There is none where the checker
-/// refuses the evidence that is made of the guess, where the guess took too long, or for want of memory. A gauge shows how far the guess has come.
-pub fn certified_winners(alloc: Global, game: &Game, gauge: Option<&Gauge>) -> Option<Vec<bool>>
-    ensures { IfSome result (λ marks. MarksOf (length game.now.vertices) marks.items (Wins game.now)) }
-{
-    let guessed = guess_soonest(alloc, game, gauge).ok()??;
-    let pair = pair_of(alloc, game, &guessed)?;
-    checked_marks(alloc, game, &pair)
-}
-
 // The same pair, where the checker accepts it, no vertex is left out, and its texts can be read again.
-fn checked_pair(game: &Game, pair: EvidencePair) -> Option<EvidencePair>
+fn checked_pair<R: Threads + Sync>(
+    rt: &R,
+    alloc: Global,
+    game: &Game,
+    pair: EvidencePair,
+    workers: usize,
+) -> Option<EvidencePair>
     requires { AreOf game.now pair }
     ensures { IfSome result (AreFull game.now) }
 {
@@ -68,7 +68,7 @@ fn checked_pair(game: &Game, pair: EvidencePair) -> Option<EvidencePair>
     game.known();
     pair.even.known();
     pair.odd.known();
-    let both = check_both(game, &pair.even, &pair.odd);
+    let both = check_both_by(rt, alloc, game, &pair.even, &pair.odd, workers);
     if matches!(both, Both::Yes) && are_small(game, &pair) {
         Some(pair)
     } else {
@@ -87,12 +87,17 @@ fn are_small(game: &Game, pair: &EvidencePair) -> bool
 }
 
 /// Evidence of all that each player wins, by a guess of winners, moves and ranks. There is none where the checker refuses the evidence that is
-/// made of the guess, where a count is too great for its text, where the guess took too long, or for want of memory. A gauge shows how far the
-/// guess has come.
-pub fn certified_evidence(alloc: Global, game: &Game, gauge: Option<&Gauge>) -> Option<EvidencePair>
+/// made of the guess, where a count is too great for its text, where the guess took too long, or for want of memory. So many threads share the
+/// check of a large game, and no more than there are processors. A gauge shows how far the guess has come.
+pub fn certified_evidence<R: Threads + Sync>(
+    rt: &R,
+    alloc: Global,
+    game: &Game,
+    workers: usize,
+    gauge: Option<&Gauge>,
+) -> Option<EvidencePair>
     ensures { IfSome result (AreFull game.now) }
 {
-    let guessed = guess_winners(alloc, game, gauge).ok()??;
-    let pair = pair_of(alloc, game, &guessed)?;
-    checked_pair(game, pair)
+    let pair = guessed_pair(alloc, game, gauge)?;
+    checked_pair(rt, alloc, game, pair, hands(rt, workers))
 }

@@ -9,29 +9,16 @@ use evidence::draft::Draft;
 use evidence::evidence::Evidence;
 use game::graph::Game;
 use game::player::Player;
+use game_search::guess::Guess;
+use gauge::Gauge;
 use std::alloc::Global;
 use text::Memory;
-use winners::guess::Guessed;
 
-// Puts what is guessed of a vertex into the evidence of its winner. What is no vertex of the game is left out, and so is a move to it.
-fn put_guessed(game: &Game, guessed: &Guessed, draft: &mut Draft, v: u32, rank: &[u32])
-    requires same { draft.old.game ≡ game.now }
-    requires rank { length rank.now ≡ length (counted draft.old.evidence.player draft.old.game) }
-    ensures same { draft.new.game ≡ game.now }
-    ensures player { draft.new.evidence.player ≡ draft.old.evidence.player }
-{
-    let vertices = game.vertices();
-    if v < vertices {
-        let next = guessed.next(v).filter(|next| *next < vertices);
-        draft.put(v, next, rank);
-    }
-}
-
-// Evidence of all that a player is guessed to win.
-pub(crate) fn evidence_of(
+// Evidence of all that a player is guessed to win. A move to what is no vertex is left out.
+fn evidence_of(
     alloc: Global,
     game: &Game,
-    guessed: &Guessed,
+    guess: &Guess,
     player: Player,
 ) -> Result<Evidence, Memory>
     ensures game { IfOk result (λ e. e.game ≡ game.now) }
@@ -39,21 +26,28 @@ pub(crate) fn evidence_of(
 {
     let mut draft = Draft::new(alloc, game, player)?;
     let mut rank = vec![in alloc; 0; draft.width()]?;
-    let mut walk = guessed.walk(game, player);
-    for _ in 0..game.vertices() {
-        match walk.advance(rank.as_mut_slice()) {
-            Some(v) => put_guessed(game, guessed, &mut draft, v, rank.as_slice()),
-            None => break,
+    let ranks = guess.ranks(alloc, player, draft.width());
+    let vertices = game.vertices();
+    for v in 0..vertices {
+        if guess.winner(v) == player {
+            ranks.put(v, rank.as_mut_slice());
+            let next = guess.next(v).filter(|next| *next < vertices);
+            draft.put(v, next, rank.as_slice());
         }
     }
     Ok(draft.into_evidence())
 }
 
-// Evidence of all that each player is guessed to win. There is none for want of memory.
-pub(crate) fn pair_of(alloc: Global, game: &Game, guessed: &Guessed) -> Option<EvidencePair>
+// Evidence of all that each player is guessed to win. There is none where the guess took too long, or for want of memory.
+pub(crate) fn guessed_pair(
+    alloc: Global,
+    game: &Game,
+    gauge: Option<&Gauge>,
+) -> Option<EvidencePair>
     ensures { IfSome result (AreOf game.now) }
 {
-    let even = evidence_of(alloc, game, guessed, Player::Even).ok()?;
-    let odd = evidence_of(alloc, game, guessed, Player::Odd).ok()?;
+    let guess = Guess::of(alloc, game, gauge)?;
+    let even = evidence_of(alloc, game, &guess, Player::Even).ok()?;
+    let odd = evidence_of(alloc, game, &guess, Player::Odd).ok()?;
     Some(EvidencePair { even, odd })
 }

@@ -5,5 +5,5 @@ pub mod decide;
 mod guessed;
 pub mod hands;
 pub mod pair;
-pub mod shared;
+pub mod raised;
 mod small;

@@ -12,11 +12,10 @@ use certify::decide::certified_evidence;
 use certify::pair::EvidencePair;
 use evidence::error::EvidenceError;
 use evidence::law::written_is_accepted;
-use evidence::make::{even_evidence, odd_evidence};
+use evidence::make::{even_evidence, odd_evidence_from};
 use forms::limits::GREATEST_PRIORITY;
 use game::dual::greatest_priority;
 use game::graph::Game;
-use measures::guess::NoGuess;
 use measures::observer::{Observer, Stage};
 use measures::table::Settled;
 use requests::error::MuError;
@@ -49,7 +48,7 @@ pub(crate) fn winners_by<O: Observer + Sync, H: Threads + Wait + Clone + Copy + 
     if let Some(marks) = guessed_winners(rt, alloc, game, options.workers, observer.gauge()) {
         return Ok(marks);
     }
-    match solve_seen(rt, alloc, game, options, &NoGate, observer, &NoGuess) {
+    match solve_seen(rt, alloc, game, options, &NoGate, observer) {
         Ok(settled) => winners(alloc, game, &settled),
         Err(error) => Err(error),
     }
@@ -77,7 +76,7 @@ pub(crate) fn evidence_by<
         vertices: game.vertices(),
     });
     match require_board(game, options.board) {
-        Ok(()) => match certified_evidence(alloc, game, observer.gauge()) {
+        Ok(()) => match certified_evidence(rt, alloc, game, options.workers as usize, observer.gauge()) {
             Some(pair) => Ok(pair),
             None => evidence_by_lifting(rt, alloc, game, options, observer),
         },
@@ -97,7 +96,7 @@ fn evidence_by_lifting<O: Observer + Sync, H: Threads + Wait + Clone + Copy + Dr
     ensures board { IfOk result (λ _. FitsBoard (Some options.now.board) (arc_value game.now)) }
     ensures refusal { IfErr result (IsUnproved options.now.board (arc_value game.now)) }
 {
-    match solve_seen(rt, alloc, game, options, &NoGate, observer, &NoGuess) {
+    match solve_seen(rt, alloc, game, options, &NoGate, observer) {
         Ok(settled) => least_evidence(alloc, game, &settled),
         Err(error) => Err(error),
     }
@@ -116,7 +115,7 @@ fn least_evidence(alloc: Global, game: &Game, settled: &Settled) -> Result<Evide
         return Err(MuError::Evidence(EvidenceError::Memory));
     }
     match even_evidence(alloc, game, settled) {
-        Ok(even) => match odd_evidence(alloc, game) {
+        Ok(even) => match odd_evidence_from(alloc, game, settled) {
             Ok(odd) => Ok(EvidencePair { even, odd }),
             Err(error) => Err(MuError::Evidence(error)),
         },

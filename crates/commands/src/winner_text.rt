@@ -7,8 +7,7 @@ ghost use Rattle.certify.specs.Full.{IsFull};
 ghost use Rattle.game.specs.Wins.{Wins};
 ghost use Rattle.commands.specs.Winners.{AreWinners, even_or_odd, sizes_text, winner_lines, winners_text as text_of};
 
-use certify::decide::set_marks;
-use certify::shared::certified_winners_by;
+use certify::decide::{certified_winners, set_marks};
 use evidence::evidence::Evidence;
 use game::graph::Game;
 use game::player::Player;
@@ -55,7 +54,7 @@ pub(crate) fn guessed_winners<R: Threads + Sync>(
     game.known();
     not_both_win();
     one_wins();
-    certified_winners_by(rt, alloc, game, workers as usize, gauge)
+    certified_winners(rt, alloc, game, workers as usize, gauge)
 }
 
 /// A mark for each vertex, true where Even wins it, by evidence of all that Even wins.

@@ -44,9 +44,8 @@ impl Activity {
     fn goes_on(self, other: Activity) -> bool {
         match (self, other) {
             (Activity::Seen(Stage::Lifting { .. }), Activity::Seen(Stage::Lifting { .. }))
-            | (Activity::Seen(Stage::Searching { .. }), Activity::Seen(Stage::Searching { .. })) => {
-                true
-            },
+            | (Activity::Seen(Stage::Searching { .. }), Activity::Seen(Stage::Searching { .. })) =>
+                { true },
             _ => false,
         }
     }

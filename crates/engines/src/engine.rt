@@ -27,8 +27,7 @@ use std::sync::Wait;
 use std::thread::Threads;
 use text::sink::Sink;
 use text::source::Source;
-use verdicts::beside::{FoundBeside, find_wanted};
-use verdicts::findings::{Findings, find_alone, find_with};
+use verdicts::findings::{Findings, find_alone, find_in, find_with};
 use verdicts::marks::{game_marks, plain_marks};
 use workers::gate::{Gate, NoGate};
 
@@ -351,10 +350,10 @@ fn check_by_game<
         let out = &mut writers.report;
         return report_by_game(rt, alloc, &texts, options, wanted.report, out, watcher);
     }
-    match find_wanted(rt, alloc, texts, options, wanted, watcher) {
-        Ok(FoundBeside { found, odd }) => {
+    match find_in(rt, alloc, texts, options, watcher) {
+        Ok(found) => {
             tell_making(&found, wanted, watcher);
-            let prepared = prepare(alloc, &found, wanted, odd);
+            let prepared = prepare(alloc, &found, wanted);
             watcher.sees(Stage::Writing);
             answer_prepared(&found, prepared, wanted, writers)
         }
@@ -442,7 +441,7 @@ fn answer_wanted<G: Sink, E: Sink, O: Sink, V: Sink, W: Sink>(
         (W.taken out.old) (W.taken out.new)) result }
     ensures cause { IfErr result (HaveCauses false false) }
 {
-    match prepare(alloc, found, wanted, None) {
+    match prepare(alloc, found, wanted) {
         Ok(prepared) => {
             let wrote = put_wanted(found, &prepared, game, even, odd, witness, out);
             answer(found, wrote)

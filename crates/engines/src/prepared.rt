@@ -5,7 +5,7 @@ ghost use Rattle.std.specs.Arc.{arc_value};
 ghost use Rattle.std.specs.Option.{is_some};
 ghost use Rattle.engines.specs.declared.prepared.Shown.{Shown};
 ghost use Rattle.engines.specs.Prepared.{ArePrepared, AreShown, IsPlayShown, IsUnprepared, IsUnshown, IsWinning};
-ghost use Rattle.verdicts.specs.Findings.{AreFindings, AreOddsOf, IsPairOf, formula_found, system_of};
+ghost use Rattle.verdicts.specs.Findings.{AreFindings, IsPairOf, formula_found, system_of};
 ghost use Rattle.requests.specs.Report.{report_in};
 
 use certify::pair::EvidencePair;
@@ -41,23 +41,17 @@ pub struct Prepared {
     pub report: Vec<u8>,
 }
 
-/// Makes what is wanted. That evidence of Odd is taken that was made before, if it was.
+/// Makes what is wanted.
 ///
 /// # Errors
 /// E5 and U4 for want of memory, N3 for that of the normal form, by which a witness is found.
-pub(crate) fn prepare(
-    alloc: Global,
-    found: &Findings,
-    wanted: Wanted,
-    odd: Option<Result<Evidence, EvidenceError>>,
-) -> Result<Prepared, MuError>
-    requires found { AreFindings found.now }
-    requires odd { IfSome odd (AreOddsOf (arc_value found.now.solution.game)) }
+pub(crate) fn prepare(alloc: Global, found: &Findings, wanted: Wanted) -> Result<Prepared, MuError>
+    requires { AreFindings found.now }
     ensures prepared { IfOk result (ArePrepared found.now) }
     ensures wanted { IfOk result (λ prepared. prepared.wanted ≡ wanted) }
     ensures refusal { IfErr result (IsUnprepared found.now wanted) }
 {
-    let pair = pair_where(alloc, found, wanted.evidence, odd)?;
+    let pair = pair_where(alloc, found, wanted.evidence)?;
     prepare_beside(alloc, found, wanted, pair)
 }
 
@@ -95,15 +89,13 @@ fn report_of(alloc: Global, found: &Findings, form: ReportForm) -> Result<Vec<u8
     report_text(alloc, &texts.system, &texts.formula, &found.marks, form)
 }
 
-/// The evidence of both players, if it is wanted. That of Odd may have been made before.
+/// The evidence of both players, if it is wanted.
 fn pair_where(
     alloc: Global,
     found: &Findings,
     wanted: bool,
-    odd: Option<Result<Evidence, EvidenceError>>,
 ) -> Result<Option<EvidencePair>, MuError>
-    requires found { AreFindings found.now }
-    requires odd { IfSome odd (AreOddsOf (arc_value found.now.solution.game)) }
+    requires { AreFindings found.now }
     ensures pair { IfOk result (λ pair. IfSome pair (IsPairOf (arc_value found.now.solution.game))) }
     ensures wanted { IfOk result (λ pair. is_some pair ≡ wanted) }
     ensures refusal { IfErr result (λ e. IsTrue wanted × (e ≡ MuError.Evidence EvidenceError.Memory)) }
@@ -111,7 +103,7 @@ fn pair_where(
     if !wanted {
         return Ok(None);
     }
-    match evidence_pair(alloc, found, odd) {
+    match evidence_pair(alloc, found) {
         Ok(pair) => Ok(Some(pair)),
         Err(error) => Err(error),
     }

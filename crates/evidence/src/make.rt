@@ -14,11 +14,11 @@ use forms::limits::GREATEST_PRIORITY;
 use game::dual::{dual, greatest_priority};
 use game::graph::Game;
 use game::player::Player;
-use measures::guess::{Guess, NoGuess, solve_one_by, solve_one_with};
+use laws::games::{dual_wins, not_both_win};
 use measures::observer::Silent;
-use measures::table::Settled;
+use measures::settle::{even_wins, solve_one, solve_one_from};
+use measures::table::{PlainTable, Settled, opening};
 use std::alloc::Global;
-use std::thread::Threads;
 use text::Memory;
 
 // Where Even goes on from a vertex, if it is Even's.
@@ -48,28 +48,6 @@ fn entries_of(alloc: Global, game: &Game, settled: &Settled) -> Result<Entries, 
         }
     }
     Ok(entries)
-}
-
-// The same, where the game isn't solved yet, with the help of a guess.
-fn solved_entries<G: Guess>(alloc: Global, game: &Game, guess: &G) -> Result<Entries, Memory>
-    ensures { IfOk result (λ e. IsEvenOf game.now (record { player = Player.Even; entries = e.entries })) }
-{
-    let settled = solve_one_by(alloc, game, guess, &Silent)?;
-    entries_of(alloc, game, &settled)
-}
-
-// The same, where so many threads share the vertices of a large game in the test of the guess.
-fn solved_entries_with<G: Guess, R: Threads + Sync>(
-    rt: &R,
-    alloc: Global,
-    game: &Game,
-    guess: &G,
-    workers: usize,
-) -> Result<Entries, Memory>
-    ensures { IfOk result (λ e. IsEvenOf game.now (record { player = Player.Even; entries = e.entries })) }
-{
-    let settled = solve_one_with(rt, alloc, game, guess, &Silent, workers)?;
-    entries_of(alloc, game, &settled)
 }
 
 /// Evidence of all that Even wins, by the least progress table: its measures are the ranks, and Even goes on to the least
@@ -107,7 +85,87 @@ fn for_odd(game: &Game, entries: Entries) -> Evidence
     Evidence::of(Player::Odd, entries, game)
 }
 
-/// Evidence of all that Odd wins: Even's of the dual game, read for Odd.
+/// Evidence of all that Odd wins: Even's of the dual game, by its least progress table, read for Odd.
+///
+/// # Errors
+/// Want of memory, E5, and nothing else.
+pub fn odd_evidence_of(
+    alloc: Global,
+    game: &Game,
+    turned: &Game,
+    settled: &Settled,
+) -> Result<Evidence, EvidenceError>
+    requires few { greatest game.now ≤ GREATEST_PRIORITY }
+    requires turned { turned.now ≡ dual_of game.now }
+    requires settled { settled.now.game ≡ turned.now }
+    ensures game { IfOk result (λ e. e.game ≡ game.now) }
+    ensures memory { IsOkUnless result EvidenceError.Memory }
+    ensures odd { IfOk result (λ e. IsOddOf game.now e.evidence) }
+    ensures good { IfOk result (λ e. IsGood game.now e.evidence) }
+    ensures exact { IfOk result (λ e. (v : ℕ) → IsTrue (has e.evidence v) ↔ OddWins game.now v) }
+{
+    let entries = entries_of(alloc, turned, settled)?;
+    Ok(for_odd(game, entries))
+}
+
+// Leaves top in a table of the dual game where Even wins the game itself.
+fn raise_dual(game: &Game, settled: &Settled, table: &mut PlainTable, v: u32)
+    requires table { table.old.game ≡ dual_of game.now }
+    requires settled { settled.now.game ≡ game.now }
+    requires vertex { v < length game.now.vertices }
+    ensures { table.new.game ≡ table.old.game }
+{
+    not_both_win();
+    dual_wins();
+    if even_wins(settled, v) {
+        table.raise_lost(v);
+    }
+}
+
+// The least progress table of the dual game, which is lifted from top where Even wins the game itself.
+fn solve_dual(
+    alloc: Global,
+    game: &Game,
+    settled: &Settled,
+    turned: &Game,
+) -> Result<Settled, Memory>
+    requires turned { turned.now ≡ dual_of game.now }
+    requires settled { settled.now.game ≡ game.now }
+    ensures { IfOk result (λ s. s.game ≡ turned.now) }
+{
+    let vertices = game.vertices();
+    let mut table = opening(alloc, turned)?;
+    for v in 0..vertices {
+        raise_dual(game, settled, &mut table, v);
+    }
+    Ok(solve_one_from(turned, table, &Silent))
+}
+
+/// Evidence of all that Odd wins in a game that is solved: Even's of the dual game, which is lifted from top where Even wins the game itself, read for Odd.
+///
+/// # Errors
+/// Want of memory, E5, and nothing else.
+pub fn odd_evidence_from(
+    alloc: Global,
+    game: &Game,
+    settled: &Settled,
+) -> Result<Evidence, EvidenceError>
+    requires few { greatest game.now ≤ GREATEST_PRIORITY }
+    requires settled { settled.now.game ≡ game.now }
+    ensures game { IfOk result (λ e. e.game ≡ game.now) }
+    ensures memory { IsOkUnless result EvidenceError.Memory }
+    ensures odd { IfOk result (λ e. IsOddOf game.now e.evidence) }
+    ensures good { IfOk result (λ e. IsGood game.now e.evidence) }
+    ensures exact { IfOk result (λ e. (v : ℕ) → IsTrue (has e.evidence v) ↔ OddWins game.now v) }
+{
+    let Ok(turned) = dual(alloc, game) else {
+        return Err(EvidenceError::Memory);
+    };
+    let other = solve_dual(alloc, game, settled, &turned)?;
+    odd_evidence_of(alloc, game, &turned, &other)
+}
+
+/// Evidence of all that Odd wins: Even's of the dual game, which is solved by lifting, read for Odd.
 ///
 /// # Errors
 /// Want of memory, E5, and nothing else.
@@ -119,53 +177,9 @@ pub fn odd_evidence(alloc: Global, game: &Game) -> Result<Evidence, EvidenceErro
     ensures good { IfOk result (λ e. IsGood game.now e.evidence) }
     ensures exact { IfOk result (λ e. (v : ℕ) → IsTrue (has e.evidence v) ↔ OddWins game.now v) }
 {
-    odd_evidence_by(alloc, game, &NoGuess)
-}
-
-/// The same, with the help of a guess of the dual game's least progress table.
-///
-/// # Errors
-/// Those of `odd_evidence`.
-pub fn odd_evidence_by<G: Guess>(
-    alloc: Global,
-    game: &Game,
-    guess: &G,
-) -> Result<Evidence, EvidenceError>
-    requires { greatest game.now ≤ GREATEST_PRIORITY }
-    ensures game { IfOk result (λ e. e.game ≡ game.now) }
-    ensures memory { IsOkUnless result EvidenceError.Memory }
-    ensures odd { IfOk result (λ e. IsOddOf game.now e.evidence) }
-    ensures good { IfOk result (λ e. IsGood game.now e.evidence) }
-    ensures exact { IfOk result (λ e. (v : ℕ) → IsTrue (has e.evidence v) ↔ OddWins game.now v) }
-{
     let Ok(turned) = dual(alloc, game) else {
         return Err(EvidenceError::Memory);
     };
-    let entries = solved_entries(alloc, &turned, guess)?;
-    Ok(for_odd(game, entries))
-}
-
-/// The same, where so many threads share the vertices of a large game in the test of the guess.
-///
-/// # Errors
-/// Those of `odd_evidence`.
-pub fn odd_evidence_with<G: Guess, R: Threads + Sync>(
-    rt: &R,
-    alloc: Global,
-    game: &Game,
-    guess: &G,
-    workers: usize,
-) -> Result<Evidence, EvidenceError>
-    requires { greatest game.now ≤ GREATEST_PRIORITY }
-    ensures game { IfOk result (λ e. e.game ≡ game.now) }
-    ensures memory { IsOkUnless result EvidenceError.Memory }
-    ensures odd { IfOk result (λ e. IsOddOf game.now e.evidence) }
-    ensures good { IfOk result (λ e. IsGood game.now e.evidence) }
-    ensures exact { IfOk result (λ e. (v : ℕ) → IsTrue (has e.evidence v) ↔ OddWins game.now v) }
-{
-    let Ok(turned) = dual(alloc, game) else {
-        return Err(EvidenceError::Memory);
-    };
-    let entries = solved_entries_with(rt, alloc, &turned, guess, workers)?;
-    Ok(for_odd(game, entries))
+    let settled = solve_one(alloc, &turned)?;
+    odd_evidence_of(alloc, game, &turned, &settled)
 }

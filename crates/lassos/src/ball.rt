@@ -1,9 +1,9 @@
 // The vertices to which plays can come from one within some number of steps.
 
 use crate::field::Field;
+use lists::list::List;
 use std::alloc::{AllocError, Global};
 use std::mem;
-use winners::numbers::Numbers;
 
 // A vertex to which a play can come, and from which place of the list it does.
 #[derive(Clone, Copy)]
@@ -15,13 +15,13 @@ struct Found {
 /// Vertices, the nearest first. The first is the one from which plays begin.
 #[derive(Drop)]
 pub(crate) struct Ball {
-    pub(crate) vertices: Numbers,
+    pub(crate) vertices: List<u32>,
     /// How many steps lead to each of them at least.
-    pub(crate) far: Numbers,
+    pub(crate) far: List<u32>,
     /// The place of the vertex before, on one of the shortest ways there.
-    pub(crate) before: Numbers,
+    pub(crate) before: List<u32>,
     // One more than the place in the list for each vertex of the game that is in it.
-    places: Numbers,
+    places: List<u32>,
     // What is reached by so many steps, and what by one more.
     level: u32,
     near: Vec<Found>,
@@ -32,10 +32,10 @@ impl Ball {
     /// Nothing yet, around a vertex.
     pub(crate) fn new(alloc: Global, field: Field, center: u32) -> Result<Self, AllocError> {
         let mut ball = Ball {
-            vertices: Numbers::none(alloc),
-            far: Numbers::none(alloc),
-            before: Numbers::none(alloc),
-            places: Numbers::filled(alloc, field.game.vertices() as usize, 0),
+            vertices: List::none(alloc),
+            far: List::none(alloc),
+            before: List::none(alloc),
+            places: List::filled(alloc, field.game.vertices() as usize, 0),
             level: 0,
             near: Vec::new(alloc),
             later: Vec::new(alloc),
@@ -48,7 +48,7 @@ impl Ball {
 
     /// The place of a vertex, if it is in the ball.
     pub(crate) fn place(&self, v: u32) -> Option<u32> {
-        self.places.get(v as usize).checked_sub(1)
+        self.places.get_or(v as usize, 0).checked_sub(1)
     }
 
     /// Whether plays come to no other vertex.

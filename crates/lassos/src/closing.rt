@@ -1,18 +1,17 @@
 // The shortest loop through a place, in the places of a room.
 
 use crate::graph::Graph;
+use lists::list::List;
 use std::alloc::{AllocError, Global};
 use std::mem;
-use winners::numbers::Numbers;
-use winners::strong::Edges;
 
 /// Which loops are looked for.
 #[derive(Clone, Copy)]
 pub(crate) struct Asked<'a> {
     pub(crate) graph: &'a Graph,
     /// How many steps lead to each place.
-    pub(crate) far: &'a Numbers,
-    pub(crate) rooms: &'a Numbers,
+    pub(crate) far: &'a List<u32>,
+    pub(crate) rooms: &'a List<u32>,
     /// The greatest priority of a room, which the loop has to have.
     pub(crate) top: u32,
     /// The place where the loop begins.
@@ -26,7 +25,7 @@ pub(crate) struct Asked<'a> {
 /// A loop, with the number of its steps.
 #[derive(Drop)]
 pub(crate) struct Loop {
-    pub(crate) places: Numbers,
+    pub(crate) places: List<u32>,
     pub(crate) steps: u32,
 }
 
@@ -61,9 +60,9 @@ struct Found {
 pub(crate) struct Closing {
     alloc: Global,
     // When each stage was come to, in which search.
-    clocks: Numbers,
+    clocks: List<u32>,
     // The stage before it.
-    before: Numbers,
+    before: List<u32>,
     clock: u32,
     near: Vec<Found>,
     later: Vec<Found>,
@@ -78,8 +77,8 @@ impl Closing {
         let stages = (closed.0 as usize).saturating_add(1);
         let closing = Closing {
             alloc,
-            clocks: Numbers::filled(alloc, stages, 0),
-            before: Numbers::filled(alloc, stages, 0),
+            clocks: List::filled(alloc, stages, 0),
+            before: List::filled(alloc, stages, 0),
             clock: 0,
             near: Vec::new(alloc),
             later: Vec::new(alloc),
@@ -123,7 +122,7 @@ impl Closing {
                 break;
             };
             let place = found.stage.0 as usize;
-            if self.clocks.get(place) == self.clock {
+            if self.clocks.get_or(place, 0) == self.clock {
                 continue;
             }
             self.clocks.set(place, self.clock);
@@ -156,8 +155,10 @@ impl Closing {
 
     // The stage of a place after another, if the loop may have it.
     fn stage_after(&self, asked: Asked, from: Stage, t: u32) -> Option<Stage> {
-        let room = asked.rooms.get(asked.start as usize);
-        if asked.rooms.get(t as usize) != room || asked.far.get(t as usize) < asked.nearest {
+        let room = asked.rooms.get_or(asked.start as usize, 0);
+        if asked.rooms.get_or(t as usize, 0) != room
+            || asked.far.get_or(t as usize, 0) < asked.nearest
+        {
             return None;
         }
         let had = from.had() || asked.graph.priority(t) == asked.top;
@@ -165,7 +166,7 @@ impl Closing {
             return Some(self.closed);
         }
         let stage = Stage::of(t, had);
-        if self.clocks.get(stage.0 as usize) == self.clock {
+        if self.clocks.get_or(stage.0 as usize, 0) == self.clock {
             None
         } else {
             Some(stage)
@@ -174,10 +175,10 @@ impl Closing {
 
     // The places of the loop that was closed, the one where it begins first. `None` where one stands there twice: then a shorter loop begins elsewhere.
     fn loop_of(&mut self, asked: Asked, steps: u32) -> Result<Option<Loop>, AllocError> {
-        let mut places = Numbers::none(self.alloc);
+        let mut places = List::none(self.alloc);
         let mut stage = self.closed;
         for _ in 0..self.clocks.len() {
-            stage = Stage(self.before.get(stage.0 as usize));
+            stage = Stage(self.before.get_or(stage.0 as usize, 0));
             places.push(stage.place());
             if stage.place() == asked.start {
                 break;
@@ -199,7 +200,7 @@ impl Closing {
         self.clock = self.clock.saturating_add(1);
         for place in places {
             let first = Stage::of(*place, false).0 as usize;
-            if self.clocks.get(first) == self.clock {
+            if self.clocks.get_or(first, 0) == self.clock {
                 return false;
             }
             self.clocks.set(first, self.clock);

@@ -2,7 +2,6 @@
 
 use game::graph::Game;
 use game::player::Player;
-use winners::arena::{owner, successors};
 
 /// The first vertex that is no sink, in a game of states with nodes.
 const FIRST_PLACE: u32 = 2;
@@ -48,5 +47,41 @@ impl<'g> Field<'g> {
             None => 0,
         };
         self.modal.get(node as usize).copied().unwrap_or(false)
+    }
+}
+
+/// Who owns a vertex. A number that is no vertex is Even's.
+pub(crate) fn owner(game: &Game, v: u32) -> Player {
+    if v < game.vertices() {
+        game.owner(v)
+    } else {
+        Player::Even
+    }
+}
+
+/// The priority of a vertex, or 0 where there is none.
+pub(crate) fn priority(game: &Game, v: u32) -> u8 {
+    if v < game.vertices() {
+        game.priority(v)
+    } else {
+        0
+    }
+}
+
+// Where a vertex leads. A number that is no vertex leads nowhere.
+fn successors(game: &Game, v: u32) -> &[u32] {
+    if v < game.vertices() {
+        game.successors(v)
+    } else {
+        &[]
+    }
+}
+
+/// The player who wins where this priority is the greatest that is met again and again.
+pub(crate) fn winner_by(priority: u8) -> Player {
+    if priority % 2 == 0 {
+        Player::Even
+    } else {
+        Player::Odd
     }
 }

@@ -2,12 +2,11 @@
 
 use crate::ball::Ball;
 use crate::closing::{Asked, Closing, Loop};
-use crate::field::Field;
+use crate::field::{Field, winner_by};
 use crate::graph::{Graph, NOWHERE};
 use crate::lasso::Lasso;
+use lists::list::List;
 use std::alloc::{AllocError, Global};
-use winners::arena::winner_by;
-use winners::numbers::Numbers;
 
 // How many steps away the search looks at first, and how many times further then.
 const FIRST_STEPS: u32 = 16;
@@ -25,7 +24,7 @@ const PRIORITIES: u8 = 33;
 struct Search<'a> {
     alloc: Global,
     graph: &'a Graph,
-    far: &'a Numbers,
+    far: &'a List<u32>,
     closing: Closing,
     best: Option<Loop>,
     // How many steps it takes to come to the best loop and go round it once.
@@ -57,7 +56,7 @@ pub(crate) fn find_lasso(
 }
 
 impl<'a> Search<'a> {
-    fn new(alloc: Global, graph: &'a Graph, far: &'a Numbers) -> Result<Self, AllocError> {
+    fn new(alloc: Global, graph: &'a Graph, far: &'a List<u32>) -> Result<Self, AllocError> {
         Ok(Search {
             alloc,
             graph,
@@ -85,7 +84,7 @@ impl<'a> Search<'a> {
             if *far >= self.total || self.closing.looks > BUDGET {
                 break;
             }
-            if rooms.get(start as usize) != NOWHERE {
+            if rooms.get_or(start as usize, 0) != NOWHERE {
                 self.look_from(&rooms, top, start, *far)?;
             }
         }
@@ -93,7 +92,7 @@ impl<'a> Search<'a> {
     }
 
     // A loop through the first place of this priority that has one.
-    fn look_through_top(&mut self, rooms: &Numbers, top: u32) -> Result<(), AllocError> {
+    fn look_through_top(&mut self, rooms: &List<u32>, top: u32) -> Result<(), AllocError> {
         for (start, room) in (0..u32::MAX).zip(rooms.as_slice()) {
             if *room != NOWHERE && self.graph.priority(start) == top {
                 return self.look_from(rooms, top, start, 0);
@@ -105,12 +104,12 @@ impl<'a> Search<'a> {
     // A loop from a place through others to which at least so many steps lead, if it is better than the best.
     fn look_from(
         &mut self,
-        rooms: &Numbers,
+        rooms: &List<u32>,
         top: u32,
         start: u32,
         nearest: u32,
     ) -> Result<(), AllocError> {
-        let far = self.far.get(start as usize);
+        let far = self.far.get_or(start as usize, 0);
         let found = self.closing.find(Asked {
             graph: self.graph,
             far: self.far,

@@ -1,11 +1,10 @@
 // The ways between the vertices of a ball, by their places.
 
 use crate::ball::Ball;
-use crate::field::Field;
+use crate::field::{Field, priority};
+use crate::strong::Components;
+use lists::list::List;
 use std::alloc::{AllocError, Global};
-use winners::arena::priority;
-use winners::numbers::{Numbers, Span};
-use winners::strong::{Edges, Strong};
 
 /// That a vertex is in no room.
 pub(crate) const NOWHERE: u32 = 0;
@@ -13,29 +12,27 @@ pub(crate) const NOWHERE: u32 = 0;
 /// The ways between places. Of each place its priority, and how many steps there are to go on from it: one or none.
 #[derive(Drop)]
 pub(crate) struct Graph {
-    starts: Numbers,
-    targets: Numbers,
-    priorities: Numbers,
-    lengths: Numbers,
-}
-
-impl Edges for Graph {
-    fn after(&self, v: u32) -> &[u32] {
-        let place = v as usize;
-        self.targets.slice(Span {
-            from: self.starts.get(place) as usize,
-            to: self.starts.get(place.saturating_add(1)) as usize,
-        })
-    }
+    starts: List<u32>,
+    targets: List<u32>,
+    priorities: List<u32>,
+    lengths: List<u32>,
 }
 
 impl Graph {
+    /// Where the ways from a place lead.
+    pub(crate) fn after(&self, v: u32) -> &[u32] {
+        let place = v as usize;
+        let to = self.starts.get_or(place.saturating_add(1), 0);
+        self.targets
+            .slice(self.starts.get_or(place, 0) as usize, to as usize)
+    }
+
     pub(crate) fn of(alloc: Global, field: Field, ball: &Ball) -> Result<Self, AllocError> {
         let mut graph = Graph {
-            starts: Numbers::copied(alloc, &[0]),
-            targets: Numbers::none(alloc),
-            priorities: Numbers::none(alloc),
-            lengths: Numbers::none(alloc),
+            starts: List::filled(alloc, 1, 0),
+            targets: List::none(alloc),
+            priorities: List::none(alloc),
+            lengths: List::none(alloc),
         };
         for v in ball.vertices.as_slice() {
             graph.add(field, ball, *v);
@@ -72,12 +69,12 @@ impl Graph {
     }
 
     pub(crate) fn priority(&self, v: u32) -> u32 {
-        self.priorities.get(v as usize)
+        self.priorities.get_or(v as usize, 0)
     }
 
     /// How many steps it takes to go on from a place.
     pub(crate) fn length(&self, v: u32) -> u32 {
-        self.lengths.get(v as usize)
+        self.lengths.get_or(v as usize, 0)
     }
 
     /// Whether some place has this priority.
@@ -86,41 +83,34 @@ impl Graph {
     }
 
     /// The number of each place's room: a strong component of the places with no greater priority than this, in which a loop has it. Other places are in none.
-    pub(crate) fn rooms(&self, alloc: Global, top: u32) -> Result<Numbers, AllocError> {
-        let mut list = self.low_places(alloc, top);
-        let vertices = u32::try_from(self.len()).unwrap_or(u32::MAX);
-        let all = Span {
-            from: 0,
-            to: list.len(),
-        };
-        let mut strong = Strong::new(alloc, vertices);
-        let ends = strong.sort(alloc, self, &mut list, all);
-        let rooms = self.rooms_of(alloc, &list, &ends, top);
-        if list.is_whole() && strong.is_whole() && ends.is_whole() && rooms.is_whole() {
+    pub(crate) fn rooms(&self, alloc: Global, top: u32) -> Result<List<u32>, AllocError> {
+        let low = self.low_places(alloc, top);
+        let components = Components::of(alloc, self, &low)?;
+        let rooms = self.rooms_of(alloc, &components, top);
+        if low.is_whole() && rooms.is_whole() {
             Ok(rooms)
         } else {
             Err(AllocError)
         }
     }
 
-    // The same, where the places stand in a list by components that end there.
-    fn rooms_of(&self, alloc: Global, list: &Numbers, ends: &Numbers, top: u32) -> Numbers {
-        let mut rooms = Numbers::filled(alloc, self.len(), NOWHERE);
+    // The number of each place's room, where these are the components.
+    fn rooms_of(&self, alloc: Global, components: &Components, top: u32) -> List<u32> {
+        let mut rooms = List::filled(alloc, self.len(), NOWHERE);
         let mut from = 0;
-        for end in ends.as_slice() {
-            let to = *end as usize;
-            let component = list.slice(Span { from, to });
+        for end in components.ends.as_slice() {
+            let component = components.places.slice(from, *end as usize);
             if self.loops(component, top) {
                 enter_all(&mut rooms, component, *end);
             }
-            from = to;
+            from = *end as usize;
         }
         rooms
     }
 
     // The places with no greater priority.
-    fn low_places(&self, alloc: Global, top: u32) -> Numbers {
-        let mut list = Numbers::none(alloc);
+    fn low_places(&self, alloc: Global, top: u32) -> List<u32> {
+        let mut list = List::none(alloc);
         let mut v = 0_u32;
         for priority in self.priorities.as_slice() {
             if *priority <= top {
@@ -141,7 +131,7 @@ impl Graph {
 }
 
 // These places are in the room of this number.
-fn enter_all(rooms: &mut Numbers, places: &[u32], room: u32) {
+fn enter_all(rooms: &mut List<u32>, places: &[u32], room: u32) {
     for place in places {
         rooms.set(*place as usize, room);
     }

@@ -9,3 +9,4 @@ mod graph;
 mod lasso;
 pub mod making;
 mod ranks;
+mod strong;

@@ -6,7 +6,7 @@ ghost use Rattle.game.specs.Arena.{arena};
 ghost use Rattle.forms.specs.Normal.{normal_nodes};
 ghost use Rattle.witness.specs.Witness.{GoesOneWay, root_of};
 
-use crate::field::Field;
+use crate::field::{Field, owner, priority};
 use crate::finding::find_lasso;
 use crate::lasso::Lasso;
 use crate::ranks::{count_on, places_backward};
@@ -22,7 +22,6 @@ use lts::Lts;
 use measures::table::Settled;
 use std::alloc::{AllocError, Global};
 use text::Memory;
-use winners::arena::{owner, priority};
 use witness::one_way::goes_one_way;
 use witness::part::{has_root, root_vertex};
 
@@ -67,7 +66,7 @@ fn put_place(
     ensures player { draft.new.evidence.player ≡ draft.old.evidence.player }
     ensures rank { length rank.new ≡ length rank.old }
 {
-    let v = lasso.vertices.get(place);
+    let v = lasso.vertices.get_or(place, 0);
     let next = lasso.after(place);
     count_on(player, priority(game, v), rank);
     if v < game.vertices() {

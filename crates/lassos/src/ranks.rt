@@ -1,11 +1,11 @@
 // Ranks along a path into a loop.
 
+use crate::field::{priority, winner_by};
 use crate::lasso::Lasso;
 use game::graph::Game;
 use game::player::Player;
+use lists::list::List;
 use std::alloc::{AllocError, Global};
-use winners::arena::{priority, winner_by};
-use winners::numbers::Numbers;
 
 /// The places of a lasso in the order in which their ranks are counted, each after the one to which it leads, where that is counted before: the first is
 /// one of the loop's with the greatest priority, where a rank begins anew.
@@ -13,10 +13,10 @@ pub(crate) fn places_backward(
     alloc: Global,
     game: &Game,
     lasso: &Lasso,
-) -> Result<Numbers, AllocError> {
+) -> Result<List<u32>, AllocError> {
     let end = lasso.vertices.len();
     let top = top_of(game, lasso);
-    let mut places = Numbers::none(alloc);
+    let mut places = List::none(alloc);
     push_backward(&mut places, lasso.back, top.saturating_add(1));
     push_backward(&mut places, top.saturating_add(1), end);
     push_backward(&mut places, 0, lasso.back);
@@ -28,7 +28,7 @@ pub(crate) fn places_backward(
 }
 
 // Adds the places from one to another, the last first.
-fn push_backward(places: &mut Numbers, from: usize, end: usize) {
+fn push_backward(places: &mut List<u32>, from: usize, end: usize) {
     for place in (from..end).rev() {
         places.push(u32::try_from(place).unwrap_or(u32::MAX));
     }
@@ -39,7 +39,7 @@ fn top_of(game: &Game, lasso: &Lasso) -> usize {
     let mut top = lasso.back;
     let mut greatest = 0;
     for place in lasso.back..lasso.vertices.len() {
-        let here = priority(game, lasso.vertices.get(place));
+        let here = priority(game, lasso.vertices.get_or(place, 0));
         if here > greatest {
             top = place;
             greatest = here;

@@ -100,6 +100,11 @@ impl<T: Copy + Drop> List<T> {
         }
     }
 
+    /// Turns the order round.
+    pub fn reverse(&mut self) {
+        self.items.reverse();
+    }
+
     /// Takes all items away, and keeps the memory.
     pub fn clear(&mut self) {
         self.items.clear();

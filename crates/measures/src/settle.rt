@@ -20,14 +20,14 @@ pub fn solve_one(alloc: Global, game: &Game) -> Result<Settled, Memory>
     ensures least { IfOk result (λ s. IsLeastTable game.now s.values) }
 {
     match opening(alloc, game) {
-        Ok(table) => Ok(solve_from(game, table, &Silent)),
+        Ok(table) => Ok(solve_one_from(game, table, &Silent)),
         Err(memory) => Err(memory),
     }
 }
 
 /// The least progress table of a game, on one thread, from any table of the game. An observer is told that lifting begins, and then of every
 /// 4,096th lift.
-pub fn solve_from<O: Observer>(game: &Game, mut table: PlainTable, observer: &O) -> Settled
+pub fn solve_one_from<O: Observer>(game: &Game, mut table: PlainTable, observer: &O) -> Settled
     requires { table.game ≡ game.now }
     ensures game { result.game ≡ game.now }
     ensures least { IsLeastTable game.now result.values }

@@ -6,6 +6,7 @@ pub mod Searches
 pub mod Lifts
 pub mod Cycles
 pub mod TableWins
+pub mod Lost
 pub mod Distinct
 pub mod Rests
 pub mod Visits

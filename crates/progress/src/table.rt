@@ -3,6 +3,7 @@
 ghost use Rattle.std.specs.Prelude.{◌≡◌, ◌≢◌, ◌<◌, ◌↔◌, ℕ, Contains, IsSome, IsTrue, Some, length, option_map, slice_set, IfOk};
 ghost use Rattle.std.specs.List.{AllByRecursion};
 ghost use Rattle.game.specs.Game.{vertex};
+ghost use Rattle.game.specs.Wins.{Wins};
 ghost use Rattle.progress.specs.Laws.{IsBestSuccessor};
 ghost use Rattle.progress.specs.Measure.{Counts, IsProg, Top};
 ghost use Rattle.progress.specs.Progress.{IsProgress, LiesUnder, greater_of, opening as opening_of, value_at};
@@ -137,6 +138,18 @@ impl PlainTable {
             self.rows.set(v as usize, m);
             self.pending.note(v);
         }
+    }
+
+    /// Leaves top where Even doesn't win.
+    #[tactic(auto, using(crate::proofs::Lost::lost_below))]
+    pub fn raise_lost(&mut self, v: u32)
+        requires vertex { v < length self.old.game.vertices }
+        requires lost { Wins self.old.game v → ⊥ }
+        ensures game { self.new.game ≡ self.old.game }
+        ensures values { self.new.values ≡ slice_set self.old.values v (greater_of (value_at self.old.values v) Top) }
+    {
+        self.known();
+        self.raise(v, &Measure::top());
     }
 
     /// Whether no lift raises a vertex.

@@ -9,13 +9,13 @@ ghost use Rattle.requests.specs.Solver.{FitsBoard, IsUnsolved};
 use crate::error::MuError;
 use crate::request::Options;
 use game::graph::Game;
-use measures::guess::Guess;
 use measures::observer::Observer;
-use measures::table::Settled;
+use measures::table::{PlainTable, Settled, opening};
 use std::alloc::Global;
 use std::sync::{Arc, Wait};
 use std::thread::Threads;
-use workers::error::TeamError;
+use text::Memory;
+use workers::error::{SolveError, TeamError};
 use workers::gate::Gate;
 use workers::team::{BoardKind, Team, fits_words, solve_by};
 
@@ -43,16 +43,15 @@ pub fn require_board(game: &Game, board: BoardKind) -> Result<(), MuError>
     }
 }
 
-/// The least progress table of a game, by the workers over the board that the options ask for, with the help of a guess. The gate is told of each
-/// turn, and an observer that the search begins, and of lifts now and then.
+/// The least progress table of a game, which the workers lift from this table of it on, over the board that the options ask for. The gate is told of
+/// each turn, and an observer that lifting begins, and of lifts now and then.
 ///
 /// # Errors
-/// T1 where the packed board is asked for and the rank of top doesn't fit a word, and only there; T2 and V1 for memory.
-pub fn solve_seen<
+/// T1 where the packed board is asked for and the rank of top doesn't fit a word, and only there; T2 for memory.
+pub fn lift_seen<
     G: Gate + Sync,
     O: Observer + Sync,
     R: Threads + Wait + Clone + Copy + Drop + Send + Sync,
-    U: Guess,
 >(
     rt: &R,
     alloc: Global,
@@ -60,8 +59,9 @@ pub fn solve_seen<
     options: &Options,
     gate: &G,
     observer: &O,
-    guess: &U,
+    table: PlainTable,
 ) -> Result<Settled, MuError>
+    requires { table.game ≡ arc_value game.now }
     ensures game { IfOk result (λ s. s.game ≡ arc_value game.now) }
     ensures board { IfOk result (λ _. FitsBoard (Some options.now.board) (arc_value game.now)) }
     ensures refusal { IfErr result (IsUnsolved (Some options.now.board) (arc_value game.now)) }
@@ -71,8 +71,36 @@ pub fn solve_seen<
         shards: options.shards,
         board: options.board,
     };
-    match solve_by(rt, alloc, game, &team, gate, observer, guess) {
+    match solve_by(rt, alloc, game, &team, gate, observer, table) {
         Ok(settled) => Ok(settled),
         Err(error) => Err(refusal(error)),
+    }
+}
+
+/// The least progress table of a game, which the workers lift from the opening table on, over the board that the options ask for. The gate is told of
+/// each turn, and an observer that lifting begins, and of lifts now and then.
+///
+/// # Errors
+/// T1 where the packed board is asked for and the rank of top doesn't fit a word, and only there; T2 and V1 for memory.
+pub fn solve_seen<
+    G: Gate + Sync,
+    O: Observer + Sync,
+    R: Threads + Wait + Clone + Copy + Drop + Send + Sync,
+>(
+    rt: &R,
+    alloc: Global,
+    game: &Arc<Game, Global>,
+    options: &Options,
+    gate: &G,
+    observer: &O,
+) -> Result<Settled, MuError>
+    ensures game { IfOk result (λ s. s.game ≡ arc_value game.now) }
+    ensures board { IfOk result (λ _. FitsBoard (Some options.now.board) (arc_value game.now)) }
+    ensures refusal { IfErr result (IsUnsolved (Some options.now.board) (arc_value game.now)) }
+{
+    require_board(game, options.board)?;
+    match opening(alloc, game) {
+        Ok(table) => lift_seen(rt, alloc, game, options, gate, observer, table),
+        Err(Memory) => Err(MuError::Solve(SolveError::Memory)),
     }
 }

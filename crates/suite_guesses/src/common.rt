@@ -4,12 +4,13 @@
 ghost use Rattle.std.specs.Prelude.{◌≡◌, ◌<◌, ◌≤◌, true};
 
 use calculus::closed::Closed;
+use certify::decide::certified_winners;
 use forms::form::Normal;
 use game::build::build;
 use game::graph::Game;
 use lts::Lts;
-use measures::settle::{settle, solve_one};
-use measures::table::{PlainTable, Settled, opening};
+use measures::settle::solve_one;
+use measures::table::Settled;
 use normal::make::normal;
 use samples::dice::{Dice, roll_game};
 use samples::games::{Row, game_of_rows};
@@ -122,25 +123,23 @@ pub(crate) fn random_game(
     rolled.expect(rt, "a game")
 }
 
-/// The opening table.
-pub(crate) fn opened(rt: &(impl Abort + AllocGlobal), game: &Game) -> PlainTable
-    ensures { result.game ≡ game.now }
-{
-    opening(rt.alloc(), game).expect(rt, "memory")
-}
-
-/// The least progress table, from the opening one by lifting alone.
-pub(crate) fn lifted_alone(rt: &(impl Abort + AllocGlobal), game: &Game) -> PlainTable
-    ensures { result.game ≡ game.now }
-{
-    let mut table = opened(rt, game);
-    settle(game, &mut table);
-    table
-}
-
-/// The least progress table, as it is found in most cases.
+/// The least progress table, by lifting.
 pub(crate) fn solved(rt: &(impl Abort + AllocGlobal), game: &Game) -> Settled
     ensures { result.game ≡ game.now }
 {
     solve_one(rt.alloc(), game).expect(rt, "memory")
+}
+
+/// The vertices that Even wins, by evidence that is guessed and that the checker accepts.
+pub(crate) fn certified(
+    rt: &(impl Abort + AllocGlobal + Threads + Sync),
+    game: &Game,
+) -> Vec<bool> {
+    certified_winners(rt, rt.alloc(), game, 1, None).expect(rt, "good evidence")
+}
+
+/// Whether there is a mark at a vertex.
+pub(crate) fn is_marked(marks: &[bool], v: u32) -> bool {
+    let place = v as usize;
+    place < marks.len() && marks[place]
 }

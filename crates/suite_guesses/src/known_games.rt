@@ -3,14 +3,14 @@
 
 ghost use Rattle.std.specs.Prelude.{◌≡◌, ◌<◌, ◌≤◌, length};
 
-use crate::common::{holds, holds_for, holds_for_both, lifted_alone, solved};
-use crate::random_games::{certified, is_marked, is_same};
+use crate::common::{certified, holds, holds_for, holds_for_both, is_marked, solved};
 use game::graph::{Game, GameBuilder};
 use game::player::Player;
 use measures::settle::even_wins;
 use measures::table::Settled;
 use samples::games::push_row;
 use std::process::Abort;
+use std::thread::Threads;
 
 // The vertices that Even wins.
 #[derive(Clone, Copy)]
@@ -56,7 +56,11 @@ fn are_marks(game: &Game, wins: EvenWins, marks: &[bool]) -> bool {
 }
 
 // Whether evidence of just those is guessed, and the checker accepts it.
-fn is_certified(rt: &(impl Abort + AllocGlobal), game: &Game, wins: EvenWins) -> bool {
+fn is_certified(
+    rt: &(impl Abort + AllocGlobal + Threads + Sync),
+    game: &Game,
+    wins: EvenWins,
+) -> bool {
     let marks = certified(rt, game);
     let are_marks = are_marks(game, wins, marks.as_slice());
     drop(marks);
@@ -70,26 +74,17 @@ fn is_solved(rt: &(impl Abort + AllocGlobal), game: &Game, wins: EvenWins) -> bo
     are_won
 }
 
-// Whether lifting alone leaves the same table.
-fn is_as_lifted(rt: &(impl Abort + AllocGlobal), game: &Game, settled: &Settled) -> bool
-    requires { settled.now.game ≡ game.now }
-{
-    let lifted = lifted_alone(rt, game);
-    let is_same = is_same(game, settled, &lifted);
-    drop(lifted);
-    is_same
-}
-
-// The same where the game is so small that lifting alone ends soon, and then as it does.
-fn is_lifted(rt: &(impl Abort + AllocGlobal), game: &Game, wins: EvenWins) -> bool {
-    let settled = solved(rt, game);
-    let is_lifted = are_won(game, &settled, wins) && is_as_lifted(rt, game, &settled);
-    drop(settled);
-    is_lifted && is_certified(rt, game, wins)
+// Whether lifting and certified evidence both say so, where the game is so small that lifting ends soon.
+fn is_lifted(
+    rt: &(impl Abort + AllocGlobal + Threads + Sync),
+    game: &Game,
+    wins: EvenWins,
+) -> bool {
+    is_solved(rt, game, wins) && is_certified(rt, game, wins)
 }
 
 // Even has the even vertices, and Odd the odd ones.
-fn owner_of(v: u32) -> Player {
+pub(crate) fn owner_of(v: u32) -> Player {
     if v % 2 == 0 {
         Player::Even
     } else {
@@ -98,7 +93,7 @@ fn owner_of(v: u32) -> Player {
 }
 
 // A game gets one more vertex.
-fn push(
+pub(crate) fn push(
     rt: &impl Abort,
     builder: &mut GameBuilder,
     owner: Player,
@@ -108,7 +103,7 @@ fn push(
     push_row(builder, owner, priority, successors).expect(rt, "memory");
 }
 
-fn finished(rt: &impl Abort, builder: GameBuilder) -> Game {
+pub(crate) fn finished(rt: &impl Abort, builder: GameBuilder) -> Game {
     builder.finish().expect(rt, "a game")
 }
 
@@ -135,7 +130,7 @@ fn ladder(rt: &(impl Abort + AllocGlobal), rungs: u32) -> Game
     finished(rt, builder)
 }
 
-fn is_ladder_lifted(rt: &(impl Abort + AllocGlobal), rungs: u32)
+fn is_ladder_lifted(rt: &(impl Abort + AllocGlobal + Threads + Sync), rungs: u32)
     requires some { 1 < rungs }
     requires few { rungs ≤ 1_000_000 }
 {
@@ -150,7 +145,7 @@ fn on_a_ladder_each_wins_the_own_vertices(rt: HostRuntime) {
         is_ladder_lifted(&rt, rungs);
     }
     let game = ladder(&rt, 50_000);
-    holds!(&rt; is_solved(&rt, &game, EvenWins::Own) && is_certified(&rt, &game, EvenWins::Own));
+    holds!(&rt; is_certified(&rt, &game, EvenWins::Own));
     drop(game);
 }
 
@@ -190,7 +185,7 @@ fn clique(rt: &(impl Abort + AllocGlobal), vertices: u32) -> Game
     finished(rt, builder)
 }
 
-fn is_clique_lifted(rt: &(impl Abort + AllocGlobal), vertices: u32, wins: EvenWins)
+fn is_clique_lifted(rt: &(impl Abort + AllocGlobal + Threads + Sync), vertices: u32, wins: EvenWins)
     requires { vertices ≤ 33 }
 {
     let game = clique(rt, vertices);
@@ -269,7 +264,7 @@ fn climb(rt: &(impl Abort + AllocGlobal), rows: u8, width: u32, winner: Player) 
 static SMALL: [(u8, u32); 4] = [(1, 50), (2, 12), (3, 6), (4, 3)];
 
 fn is_climb_lifted(
-    rt: &(impl Abort + AllocGlobal),
+    rt: &(impl Abort + AllocGlobal + Threads + Sync),
     rows: u8,
     width: u32,
     winner: Player,
@@ -292,7 +287,7 @@ fn who_wins_at_the_end_of_a_way_wins_the_climb(rt: HostRuntime) {
 static LARGE: [(u8, u32); 3] = [(4, 100), (4, 20_000), (15, 1_000)];
 
 fn is_climb_certified(
-    rt: &(impl Abort + AllocGlobal),
+    rt: &(impl Abort + AllocGlobal + Threads + Sync),
     rows: u8,
     width: u32,
     winner: Player,

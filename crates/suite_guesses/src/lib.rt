@@ -2,8 +2,6 @@
 #![tactic(auto)]
 
 #[cfg(test)]
-mod claims_by_hand;
-#[cfg(test)]
 mod common;
 #[cfg(test)]
 mod guessed_columns;
@@ -14,12 +12,6 @@ mod guesses;
 #[cfg(test)]
 mod known_games;
 #[cfg(test)]
-mod lost_vertices;
-#[cfg(test)]
 mod nested_guesses;
 #[cfg(test)]
-mod random_games;
-#[cfg(test)]
 mod rankings_by_hand;
-#[cfg(test)]
-mod shared_guesses;

@@ -1,12 +1,11 @@
 // What observers are told. The numbers of vertices are counted by hand; a lift is told of after each 4,096th, and one sweep over
 // all vertices lifts each of them once.
 
-use crate::common::{holds, holds_of};
+use crate::common::{holds, holds_of, opened};
 use game::graph::Game;
 use gauge::Gauge;
-use measures::guess::NoGuess;
 use measures::observer::{Observer, Stage};
-use measures::settle::solve_one_seen;
+use measures::settle::solve_one_from;
 use samples::games::shared_arena_of;
 use samples::texts::ring;
 use std::alloc::Global;
@@ -17,10 +16,9 @@ use std::thread::Threads;
 use workers::gate::NoGate;
 use workers::team::{BoardKind, Team, solve_by};
 
-/// Keeps how often each stage was told, and the last numbers.
+/// Keeps how often lifting was told, and the last numbers.
 #[derive(Drop)]
 struct Tally {
-    searches: AtomicU64,
     vertices: AtomicU64,
     tellings: AtomicU64,
     lifts: AtomicU64,
@@ -29,7 +27,6 @@ struct Tally {
 impl Tally {
     fn new() -> Tally {
         Tally {
-            searches: AtomicU64::new(0),
             vertices: AtomicU64::new(0),
             tellings: AtomicU64::new(0),
             lifts: AtomicU64::new(0),
@@ -40,11 +37,8 @@ impl Tally {
 impl Observer for Tally {
     fn sees(&self, stage: Stage) {
         match stage {
-            Stage::Searching { vertices } => {
-                self.searches.fetch_add(1, Ordering::SeqCst);
+            Stage::Lifting { vertices, lifts } => {
                 self.vertices.store(u64::from(vertices), Ordering::SeqCst);
-            }
-            Stage::Lifting { vertices: _, lifts } => {
                 self.tellings.fetch_add(1, Ordering::SeqCst);
                 self.lifts.fetch_max(lifts, Ordering::SeqCst);
             }
@@ -64,9 +58,9 @@ fn game_of_the_ring(rt: &(impl Abort + AllocGlobal + Threads + Sync)) -> Arc<Gam
 }
 
 impl Tally {
-    /// One search of so many vertices was told of.
-    fn has_search(&self, rt: &impl Abort) {
-        holds!(rt; self.searches.load(Ordering::SeqCst) == 1);
+    /// Lifting was told of in a game with so many vertices.
+    fn has_vertices(&self, rt: &impl Abort, wanted: u64) {
+        holds!(rt; self.vertices.load(Ordering::SeqCst) == wanted);
     }
 
     /// So many lifts were told of at last, and they are some thousands.
@@ -82,22 +76,21 @@ impl Tally {
     }
 }
 
-fn is_solved_by_one(rt: &(impl Abort + AllocGlobal), game: &Game, tally: &Tally) {
-    holds!(rt; solve_one_seen(rt.alloc(), game, tally).is_ok());
+fn solve_by_one(rt: &(impl Abort + AllocGlobal), game: &Game, tally: &Tally) {
+    drop(solve_one_from(game, opened(rt, game), tally));
 }
 
 fn tells_of_one(rt: &(impl Abort + AllocGlobal), game: &Game) {
     let tally = Tally::new();
-    is_solved_by_one(rt, game, &tally);
-    tally.has_search(rt);
-    holds!(rt; tally.vertices.load(Ordering::SeqCst) == 17502);
+    solve_by_one(rt, game, &tally);
+    tally.has_vertices(rt, 17502);
     let lifts = tally.last_lifts(rt, 16384);
     // The first telling is of no lift, and then there is one for each 4,096.
     tally.has_tellings(rt, 1 + lifts / 4096);
 }
 
 #[test]
-fn one_thread_tells_of_the_search_and_of_lifts(rt: HostRuntime) {
+fn one_thread_tells_of_lifts(rt: HostRuntime) {
     let game = game_of_the_ring(&rt);
     tells_of_one(&rt, &game);
 }
@@ -114,10 +107,12 @@ fn tells_of_workers<R: Abort + AllocGlobal + Threads + Wait + Clone + Copy + Dro
         shards: 16,
         board,
     };
-    holds!(rt; solve_by(rt, rt.alloc(), game, &team, &NoGate, &tally, &NoGuess).is_ok());
-    tally.has_search(rt);
+    let table = opened(rt, game);
+    holds!(rt; solve_by(rt, rt.alloc(), game, &team, &NoGate, &tally, table).is_ok());
+    tally.has_vertices(rt, 17502);
     let lifts = tally.last_lifts(rt, 4096);
-    tally.has_tellings(rt, lifts / 4096);
+    // The first telling is of no lift, and then there is one for each 4,096.
+    tally.has_tellings(rt, 1 + lifts / 4096);
 }
 
 #[test]

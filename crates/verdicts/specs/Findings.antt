@@ -1,5 +1,5 @@
 -- What a check by a game finds out.
-use Rattle.std.specs.Prelude.{◌≡◌, ℕ, ◌↔◌, Result, IfSome, IsTrue, MatchResult, length}
+use Rattle.std.specs.Prelude.{◌≡◌, ℕ, ◌↔◌, Result, IsTrue, MatchResult, length}
 use Rattle.std.specs.Arc.{arc_value}
 use Rattle.systems.specs.System.{System}
 use Rattle.calculus.specs.Tree.{Formula}
@@ -17,7 +17,6 @@ use Rattle.verdicts.specs.declared.lifting.Winners.{Winners}
 use Rattle.verdicts.specs.declared.lifting.Winners.TheVariants.{Table, Marks as ByMarks}
 use Rattle.verdicts.specs.declared.lifting.Solution.{Solution}
 use Rattle.verdicts.specs.declared.lifting.Solution.TheVariants.{Table as HasTable, Marks as HasMarks}
-use Rattle.verdicts.specs.declared.beside.FoundBeside.{FoundBeside}
 use Rattle.verdicts.specs.declared.findings.Findings.{Findings}
 use Rattle.verdicts.specs.declared.findings.Posed.{Posed}
 use Rattle.certify.specs.declared.pair.EvidencePair.{EvidencePair}
@@ -75,11 +74,6 @@ pub record IsOdds (g : Game) (e : NamedEvidence) : Type 0 where
 -- evidence of all that Odd wins, or memory was wanting for it
 abbrev pub AreOddsOf : Game → Result NamedEvidence EvidenceError → Type 0
 AreOddsOf g made = MatchResult made (IsOdds g) (λ e. e ≡ evidence.Memory)
-
--- The game is solved, and the evidence of all that Odd wins may be made, too.
-pub record AreFoundBeside (x : FoundBeside) : Type 0 where
-  pub found : AreFindings x.found
-  pub odd : IfSome x.odd (AreOddsOf (arc_value x.found.solution.game))
 
 -- evidence of all that each player wins
 pub record IsPairOf (g : Game) (pair : EvidencePair) : Type 0 where

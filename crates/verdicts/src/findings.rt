@@ -13,21 +13,22 @@ ghost use Rattle.verdicts.specs.Findings.{AreFindings, ArePosed, formula_found, 
 ghost use Rattle.requests.specs.Solver.{FitsBoard, IsUnsolved};
 ghost use Rattle.requests.specs.Writers.{AreKept, Lent};
 
-use crate::guessing::{dual_guess_of, guess_of};
+use crate::guessing::{guessed_dual, guessed_table};
 use crate::lifting::{SolvedGame, Winners, state_marks};
-use claims::claimed::Claims;
+use certify::raised::raised_table;
 use evidence::error::EvidenceError;
 use evidence::evidence::Evidence;
-use evidence::make::odd_evidence_by;
+use evidence::make::{odd_evidence_from, odd_evidence_of};
 use forms::priorities::Priorities;
+use game::dual::dual;
 use game::graph::Game;
-use measures::guess::solve_one_by;
 use measures::observer::{Observer, Silent, Stage};
+use measures::settle::solve_one;
 use measures::table::Settled;
 use requests::arena::arena_of;
 use requests::error::MuError;
 use requests::request::Options;
-use requests::solver::solve_seen;
+use requests::solver::{lift_seen, require_board, solve_seen};
 use requests::texts::{Texts, read_both};
 use requests::watch::Watcher;
 use std::alloc::Global;
@@ -35,17 +36,9 @@ use std::sync::{Arc, Wait};
 use std::thread::Threads;
 use text::Memory;
 use text::source::Source;
+use workers::error::SolveError;
 use workers::gate::{Gate, NoGate};
 use workers::team::BoardKind;
-
-/// Which teams a guess helps.
-#[derive(Clone, Copy, PartialEq, Eq)]
-pub(crate) enum Helped {
-    /// One worker alone, so that several lift.
-    OneWorker,
-    /// Every team, so that none lifts where the guess is good.
-    EveryTeam,
-}
 
 /// What a check by a game finds out, with all that its texts need but evidence.
 #[derive(Drop)]
@@ -89,8 +82,8 @@ pub fn find_alone<R: Source + Drop, S: Source + Drop, H: Threads + Sync>(
     }
 }
 
-/// Reads both texts, and finds out by the workers, over the board that the options ask for, which states satisfy the formula. Several workers
-/// lift, without the help of a guess, and the gate is told of each turn.
+/// Reads both texts, and finds out by the workers, over the board that the options ask for, which states satisfy the formula. They lift from the
+/// opening table on, without the help of a guess, and the gate is told of each turn of several workers.
 ///
 /// # Errors
 /// Those of `find_alone`, and those of the board and of the workers' table: T1 where the packed board can't be had, and only there.
@@ -116,10 +109,7 @@ pub fn find_with<
     ensures cause { IfErr result (HaveCauses R.can_fail S.can_fail) }
 {
     match read_and_build(rt, alloc, aut, formula, options.priorities) {
-        Ok(posed) => {
-            let helped = Helped::OneWorker;
-            find_by_workers(rt, alloc, posed, options, helped, gate, &Silent)
-        }
+        Ok(posed) => find_by_workers(rt, alloc, posed, options, gate),
         Err(error) => Err(error),
     }
 }
@@ -148,7 +138,7 @@ pub fn find_in<O: Watcher + Sync, H: Threads + Wait + Clone + Copy + Drop + Send
 }
 
 /// The value in a box.
-pub(crate) fn boxed<T: Drop>(alloc: Global, value: T) -> Result<Box<T>, Memory>
+fn boxed<T: Drop>(alloc: Global, value: T) -> Result<Box<T>, Memory>
     ensures { IfOk result (λ held. held.value ≡ value) }
 {
     Ok(Box::new(alloc, value)?)
@@ -168,10 +158,7 @@ fn find_boxed<O: Watcher + Sync, H: Threads + Wait + Clone + Copy + Drop + Send 
         (closed_formula texts.value.formula)) }
 {
     match build_of(rt, alloc, texts, options.priorities, observer) {
-        Ok(posed) => {
-            let helped = Helped::EveryTeam;
-            find_by_workers(rt, alloc, posed, options, helped, &NoGate, observer)
-        }
+        Ok(posed) => find_posed(rt, alloc, posed, options, observer),
         Err(error) => Err(error),
     }
 }
@@ -202,7 +189,7 @@ fn read_and_build<R: Source + Drop, S: Source + Drop, H: Threads + Sync>(
 }
 
 /// Makes the game of these texts.
-pub(crate) fn build_of<O: Observer, H: Threads + Sync>(
+fn build_of<O: Observer, H: Threads + Sync>(
     rt: &H,
     alloc: Global,
     texts: Box<Texts>,
@@ -245,65 +232,38 @@ fn find_by_one(alloc: Global, posed: Posed) -> Result<Findings, MuError>
     ensures texts { IfOk result (λ found. found.texts.value ≡ posed.texts.value) }
     ensures refusal { IfErr result (λ e. e ≡ MuError.Memory) }
 {
-    match solve_posed(alloc, &posed) {
+    match solve_one(alloc, &posed.game) {
         Ok(settled) => find_solved(alloc, posed, None, settled),
         Err(Memory) => Err(MuError::Memory),
     }
 }
 
-/// The least progress table, on one thread.
-fn solve_posed(alloc: Global, posed: &Posed) -> Result<Settled, Memory>
-    ensures { IfOk result (λ s. s.game ≡ arc_value posed.now.game) }
-{
-    let Texts { system, formula } = &*posed.texts;
-    let guess = guess_of(alloc, system, formula, posed.priorities);
-    solve_one_by(alloc, &posed.game, &guess, &Silent)
-}
-
-/// The least progress table, by workers, which a guess helps or not.
-pub(crate) fn solve_by_workers<
-    T: Gate + Sync,
-    O: Observer + Sync,
-    H: Threads + Wait + Clone + Copy + Drop + Send + Sync,
->(
-    rt: &H,
-    alloc: Global,
-    posed: &Posed,
-    options: &Options,
-    helped: Helped,
-    gate: &T,
-    observer: &O,
-) -> Result<Settled, MuError>
-    ensures game { IfOk result (λ s. s.game ≡ arc_value posed.now.game) }
-    ensures board { IfOk result (λ _. FitsBoard (Some options.now.board) (arc_value posed.now.game)) }
-    ensures refusal { IfErr result (IsUnsolved (Some options.now.board) (arc_value posed.now.game)) }
-{
-    let is_helped = helped == Helped::EveryTeam || options.workers == 1;
-    let guess = guess_where(alloc, posed, is_helped);
-    solve_seen(rt, alloc, &posed.game, options, gate, observer, &guess)
-}
-
-/// What is guessed of the game, where a guess helps.
-fn guess_where(alloc: Global, posed: &Posed, is_helped: bool) -> Option<Claims> {
-    if !is_helped {
-        return None;
-    }
-    let Texts { system, formula } = &*posed.texts;
-    guess_of(alloc, system, formula, posed.priorities)
-}
-
-/// What is found out of these texts by workers.
-fn find_by_workers<
-    T: Gate + Sync,
-    O: Observer + Sync,
-    H: Threads + Wait + Clone + Copy + Drop + Send + Sync,
->(
+/// What is found out of these texts by workers, who lift from the opening table on.
+fn find_by_workers<T: Gate + Sync, H: Threads + Wait + Clone + Copy + Drop + Send + Sync>(
     rt: &H,
     alloc: Global,
     posed: Posed,
     options: &Options,
-    helped: Helped,
     gate: &T,
+) -> Result<Findings, MuError>
+    requires { ArePosed posed }
+    ensures found { IfOk result AreFindings }
+    ensures way { IfOk result (λ found. way_in found ≡ ByGame posed.priorities (Some options.now.board)) }
+    ensures texts { IfOk result (λ found. found.texts.value ≡ posed.texts.value) }
+    ensures refusal { IfErr result (IsUnsolved (Some options.now.board) (arc_value posed.game)) }
+{
+    match solve_seen(rt, alloc, &posed.game, options, gate, &Silent) {
+        Ok(settled) => find_solved(alloc, posed, Some(options.board), settled),
+        Err(error) => Err(error),
+    }
+}
+
+/// What is found out of these texts: by a guess, where it is good, and else by workers.
+fn find_posed<O: Observer + Sync, H: Threads + Wait + Clone + Copy + Drop + Send + Sync>(
+    rt: &H,
+    alloc: Global,
+    posed: Posed,
+    options: &Options,
     observer: &O,
 ) -> Result<Findings, MuError>
     requires { ArePosed posed }
@@ -312,14 +272,41 @@ fn find_by_workers<
     ensures texts { IfOk result (λ found. found.texts.value ≡ posed.texts.value) }
     ensures refusal { IfErr result (IsUnsolved (Some options.now.board) (arc_value posed.game)) }
 {
-    match solve_by_workers(rt, alloc, &posed, options, helped, gate, observer) {
+    match settle_posed(rt, alloc, &posed, options, observer) {
         Ok(settled) => find_solved(alloc, posed, Some(options.board), settled),
         Err(error) => Err(error),
     }
 }
 
+/// The least progress table: by a guess, where it is good. Else workers lift it from a table that has top where certified evidence says that Odd wins.
+fn settle_posed<O: Observer + Sync, H: Threads + Wait + Clone + Copy + Drop + Send + Sync>(
+    rt: &H,
+    alloc: Global,
+    posed: &Posed,
+    options: &Options,
+    observer: &O,
+) -> Result<Settled, MuError>
+    ensures game { IfOk result (λ s. s.game ≡ arc_value posed.now.game) }
+    ensures board { IfOk result (λ _. FitsBoard (Some options.now.board) (arc_value posed.now.game)) }
+    ensures refusal { IfErr result (IsUnsolved (Some options.now.board) (arc_value posed.now.game)) }
+{
+    let game = &posed.game;
+    observer.sees(Stage::Searching {
+        vertices: game.vertices(),
+    });
+    require_board(game, options.board)?;
+    if let Some(settled) = guessed_table(alloc, &posed.texts, posed.priorities, game) {
+        return Ok(settled);
+    }
+    let workers = options.workers as usize;
+    match raised_table(rt, alloc, game, workers, observer.gauge()) {
+        Ok(table) => lift_seen(rt, alloc, game, options, &NoGate, observer, table),
+        Err(Memory) => Err(MuError::Solve(SolveError::Memory)),
+    }
+}
+
 /// What is found out where the game is solved.
-pub(crate) fn find_solved(
+fn find_solved(
     alloc: Global,
     posed: Posed,
     board: Option<BoardKind>,
@@ -367,7 +354,12 @@ pub fn odd_evidence_found(alloc: Global, found: &Findings) -> Result<Evidence, E
     ensures exact { IfOk result (λ e. (v : ℕ) → IsTrue (has e.evidence v) ↔ OddWins (arc_value found.now.solution.game) v) }
 {
     let solution = &found.solution;
-    let Texts { system, formula } = &*found.texts;
-    let guess = dual_guess_of(alloc, system, formula, solution.priorities);
-    odd_evidence_by(alloc, &solution.game, &guess)
+    let game = &solution.game;
+    let Ok(turned) = dual(alloc, game) else {
+        return Err(EvidenceError::Memory);
+    };
+    match guessed_dual(alloc, &found.texts, solution.priorities, &turned) {
+        Some(settled) => odd_evidence_of(alloc, game, &turned, &settled),
+        None => odd_evidence_from(alloc, game, &solution.settled),
+    }
 }

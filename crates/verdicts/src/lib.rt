@@ -2,7 +2,6 @@
 // evidence of both players in a game that was solved.
 #![tactic(auto)]
 
-pub mod beside;
 pub mod findings;
 mod guessing;
 pub mod lifting;

@@ -7,17 +7,14 @@ ghost use Rattle.requests.specs.Check.{AreMarks, BySets, ByGame, IsArenaOf, IsBe
 ghost use Rattle.requests.specs.Solver.{FitsBoard, IsUnsolved};
 ghost use Rattle.verdicts.specs.Findings.{IsSolutionOf};
 
-use crate::guessing::guess_of;
 use crate::lifting::{Solution, state_marks};
 use crate::ranked::ranked_marks;
 use calculus::closed::Closed;
-use certify::shared::certified_winners_by;
-use claims::claimed::Claims;
+use certify::decide::certified_winners;
 use game::graph::Game;
 use lts::Memory;
 use lts::system::Lts;
 use meaning::plain::plain_states;
-use measures::guess::settled_by_guess;
 use measures::observer::{Observer, Stage};
 use requests::arena::arena_of;
 use requests::error::MuError;
@@ -97,8 +94,8 @@ fn stored_marks<O: Observer + Sync, H: Threads + Wait + Clone + Copy + Drop + Se
     }
 }
 
-/// A mark for each state, true where it satisfies the formula, in the game of both: by a guess of the whole table, where it is good;
-/// else by evidence of both players that is guessed and found good, where there is some; else by lifting.
+/// A mark for each state, true where it satisfies the formula, in the game of both: by evidence of both players that is guessed and
+/// found good, where there is some; else by lifting.
 fn marks_in<O: Observer + Sync, H: Threads + Wait + Clone + Copy + Drop + Send + Sync>(
     rt: &H,
     alloc: Global,
@@ -115,7 +112,7 @@ fn marks_in<O: Observer + Sync, H: Threads + Wait + Clone + Copy + Drop + Send +
     observer.sees(Stage::Searching {
         vertices: game.vertices(),
     });
-    match solution_of(rt, alloc, system, formula, game, options, observer) {
+    match solution_of(rt, alloc, game, options, observer) {
         Ok(solution) => {
             let priorities = options.priorities;
             state_marks(alloc, system, formula, priorities, game, solution.winners())
@@ -128,8 +125,6 @@ fn marks_in<O: Observer + Sync, H: Threads + Wait + Clone + Copy + Drop + Send +
 fn solution_of<O: Observer + Sync, H: Threads + Wait + Clone + Copy + Drop + Send + Sync>(
     rt: &H,
     alloc: Global,
-    system: &Lts,
-    formula: &Closed,
     game: &Arc<Game, Global>,
     options: &Options,
     observer: &O,
@@ -139,37 +134,11 @@ fn solution_of<O: Observer + Sync, H: Threads + Wait + Clone + Copy + Drop + Sen
     ensures refusal { IfErr result (IsUnsolved (Some options.now.board) (arc_value game.now)) }
 {
     require_board(game, options.board)?;
-    let guess = guess_of(alloc, system, formula, options.priorities);
-    solution_by(rt, alloc, game, options, observer, &guess)
-}
-
-/// The same, with what is guessed of the game.
-fn solution_by<O: Observer + Sync, H: Threads + Wait + Clone + Copy + Drop + Send + Sync>(
-    rt: &H,
-    alloc: Global,
-    game: &Arc<Game, Global>,
-    options: &Options,
-    observer: &O,
-    guess: &Option<Claims>,
-) -> Result<Solution, MuError>
-    requires { FitsBoard (Some options.now.board) (arc_value game.now) }
-    ensures solution { IfOk result (IsSolutionOf (arc_value game.now)) }
-    ensures board { IfOk result (λ _. FitsBoard (Some options.now.board) (arc_value game.now)) }
-    ensures refusal { IfErr result (IsUnsolved (Some options.now.board) (arc_value game.now)) }
-{
-    if let Some(settled) = settled_by_guess(alloc, game, guess) {
-        return Ok(Solution::Table(settled));
-    }
-    if let Some(marks) = certified_winners_by(
-        rt,
-        alloc,
-        game,
-        options.workers as usize,
-        observer.gauge(),
-    ) {
+    let workers = options.workers as usize;
+    if let Some(marks) = certified_winners(rt, alloc, game, workers, observer.gauge()) {
         return Ok(Solution::Marks(marks));
     }
-    match solve_seen(rt, alloc, game, options, &NoGate, observer, guess) {
+    match solve_seen(rt, alloc, game, options, &NoGate, observer) {
         Ok(settled) => Ok(Solution::Table(settled)),
         Err(error) => Err(error),
     }

@@ -1,6 +1,6 @@
 // The evidence of both players in a game that was solved.
 
-ghost use Rattle.std.specs.Prelude.{◌≡◌, IfOk, IfErr, IfSome, MatchResult};
+ghost use Rattle.std.specs.Prelude.{◌≡◌, IfOk, IfErr, MatchResult};
 ghost use Rattle.std.specs.Arc.{arc_value};
 ghost use Rattle.verdicts.specs.Findings.{AreFindings, AreOddsOf, IsEvens, IsPairOf};
 
@@ -51,24 +51,16 @@ fn paired(
     }
 }
 
-/// The evidence of both players. That of Odd is made unless it was before, or memory was wanting for it.
+/// The evidence of both players.
 ///
 /// # Errors
 /// E5.
-pub fn evidence_pair(
-    alloc: Global,
-    found: &Findings,
-    odd: Option<Result<Evidence, EvidenceError>>,
-) -> Result<EvidencePair, MuError>
-    requires found { AreFindings found.now }
-    requires odd { IfSome odd (AreOddsOf (arc_value found.now.solution.game)) }
+pub fn evidence_pair(alloc: Global, found: &Findings) -> Result<EvidencePair, MuError>
+    requires { AreFindings found.now }
     ensures pair { IfOk result (IsPairOf (arc_value found.now.solution.game)) }
     ensures memory { IfErr result (λ e. e ≡ MuError.Evidence EvidenceError.Memory) }
 {
     let even = evens(alloc, found);
-    let odd = match odd {
-        Some(odd) => odd,
-        None => odds(alloc, found),
-    };
+    let odd = odds(alloc, found);
     paired(found, even, odd)
 }

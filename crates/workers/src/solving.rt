@@ -16,8 +16,8 @@ use crate::rest::Rest;
 use crate::worker::work;
 use game::graph::Game;
 use game::name::GameName;
-use measures::settle::{first_table, settle};
-use measures::table::{PlainTable, Settled};
+use measures::settle::settle;
+use measures::table::{PlainTable, Settled, opening};
 use std::alloc::{AllocError, Global};
 use std::marker::Brand;
 use std::sync::{Arc, Wait};
@@ -90,11 +90,11 @@ pub fn solve<B: Board + Drop + Sync, G: Gate + Sync, R: Threads + Wait + Sync>(
     ensures game { IfOk result (λ s. s.game ≡ arc_value game.now) }
     ensures least { IfOk result (λ s. IsLeastTable (arc_value game.now) s.values) }
 {
-    let table = first_table(alloc, game)?;
+    let table = opening(alloc, game)?;
     Ok(solve_from(rt, alloc, game, table, board, workers, gate))
 }
 
-/// The same from any table of the game: what it leaves is lifted by the workers.
+/// The least progress table of a game, after so many workers lifted over a board what this table of the game leaves to be lifted.
 pub fn solve_from<B: Board + Drop + Sync, G: Gate + Sync, R: Threads + Wait + Sync>(
     rt: &R,
     alloc: Global,

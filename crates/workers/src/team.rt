@@ -7,22 +7,21 @@ ghost use Rattle.progress.specs.Progress.{IsLeastTable};
 ghost use Rattle.progress.specs.declared.rank.TheConstants.{RANK_LIMIT};
 ghost use Rattle.workers.specs.Team.{IsMemory, IsTeamRefusal, IsTooGreat};
 
-use crate::error::{SolveError, TeamError};
+use crate::error::TeamError;
 use crate::gate::Gate;
 use crate::locked::solve_locked;
-use crate::solving::solve;
+use crate::solving::solve_from;
 use crate::watch::Watched;
 use game::graph::Game;
-use measures::guess::{Guess, settled_by_guess_with, solve_one_by};
 use measures::observer::{Observer, Stage};
 use measures::rank::top_rank;
-use measures::table::Settled;
+use measures::settle::solve_one_from;
+use measures::table::{PlainTable, Settled};
 use std::alloc::Global;
 use std::sync::{Arc, Wait};
 use std::thread::Threads;
 use tables::error::TableError;
 use tables::packed::PackedBoard;
-use text::error::Memory;
 
 /// Which board the workers share.
 #[derive(Clone, Copy, Debug, PartialEq, Eq)]
@@ -45,18 +44,15 @@ pub struct Team {
     pub ghost some_shards: { 0 < shards },
 }
 
-/// The least progress table of a game, by a team, with the help of a guess. Where that is the whole table, no worker lifts; where it is
-/// a part of it, one worker alone begins with that. An observer is told that the search begins, that lifting does, and then every 4,096th
-/// lift of a worker. One worker alone needs no board, no gate, and no thread beside the caller's.
+/// The least progress table of a game, which a team lifts from this table of the game on. An observer is told that lifting begins, and then of every
+/// 4,096th lift of a worker. One worker alone needs no board, no gate, and no thread beside the caller's.
 ///
 /// # Errors
-/// T1 where the packed board is asked for and the rank of top doesn't fit a word, and only there. T2 where memory for the board is
-/// refused, and V1 where memory for the table is.
+/// T1 where the packed board is asked for and the rank of top doesn't fit a word, and only there. T2 where memory for the board is refused.
 pub fn solve_by<
     G: Gate + Sync,
     O: Observer + Sync,
     R: Threads + Wait + Clone + Copy + Drop + Send + Sync,
-    U: Guess,
 >(
     rt: &R,
     alloc: Global,
@@ -64,24 +60,23 @@ pub fn solve_by<
     team: &Team,
     gate: &G,
     observer: &O,
-    guess: &U,
+    table: PlainTable,
 ) -> Result<Settled, TeamError>
+    requires { table.game ≡ arc_value game.now }
     ensures game { IfOk result (λ s. s.game ≡ arc_value game.now) }
     ensures least { IfOk result (λ s. IsLeastTable (arc_value game.now) s.values) }
     ensures refused { MatchResult result (λ s. IsTooGreat team.now.board (arc_value game.now) → ⊥) (IsTeamRefusal team.now.board (arc_value game.now)) }
 {
-    if team.workers == 1 {
-        return solve_alone(alloc, game, team.board, observer, guess);
+    match fits_words(game, team.board) {
+        Ok(_) if team.workers == 1 => Ok(solve_one_from(game, table, observer)),
+        Ok(fits) => {
+            let vertices = game.vertices();
+            observer.sees(Stage::Lifting { vertices, lifts: 0 });
+            let watched = Watched::new(gate, observer, vertices);
+            solve_together(rt, alloc, game, team, fits, table, &watched)
+        }
+        Err(error) => Err(error),
     }
-    let vertices = game.vertices();
-    observer.sees(Stage::Searching { vertices });
-    let fits = fits_words(game, team.board)?;
-    let workers = team.workers as usize;
-    if let Some(settled) = settled_by_guess_with(rt, alloc, game, guess, workers) {
-        return Ok(settled);
-    }
-    let watched = Watched::new(gate, observer, vertices);
-    solve_together(rt, alloc, game, team, fits, &watched)
 }
 
 /// Whether ranks fit a word, so that the board can be packed.
@@ -100,27 +95,6 @@ pub fn fits_words(game: &Game, board: BoardKind) -> Result<bool, TeamError>
     Ok(fits)
 }
 
-// By one worker, without a board.
-fn solve_alone<O: Observer, U: Guess>(
-    alloc: Global,
-    game: &Game,
-    board: BoardKind,
-    observer: &O,
-    guess: &U,
-) -> Result<Settled, TeamError>
-    ensures game { IfOk result (λ s. s.game ≡ game.now) }
-    ensures least { IfOk result (λ s. IsLeastTable game.now s.values) }
-    ensures refused { MatchResult result (λ s. IsTooGreat board game.now → ⊥) (IsTeamRefusal board game.now) }
-{
-    match fits_words(game, board) {
-        Ok(_) => match solve_one_by(alloc, game, guess, observer) {
-            Ok(settled) => Ok(settled),
-            Err(Memory) => Err(TeamError::Solve(SolveError::Memory)),
-        },
-        Err(error) => Err(error),
-    }
-}
-
 // By workers over the board.
 fn solve_together<G: Gate + Sync, R: Threads + Wait + Clone + Copy + Drop + Send + Sync>(
     rt: &R,
@@ -128,8 +102,10 @@ fn solve_together<G: Gate + Sync, R: Threads + Wait + Clone + Copy + Drop + Send
     game: &Arc<Game, Global>,
     team: &Team,
     fits: bool,
+    table: PlainTable,
     gate: &G,
 ) -> Result<Settled, TeamError>
+    requires table { table.game ≡ arc_value game.now }
     requires fits { IsTrue fits → height (arc_value game.now) < RANK_LIMIT }
     ensures game { IfOk result (λ s. s.game ≡ arc_value game.now) }
     ensures least { IfOk result (λ s. IsLeastTable (arc_value game.now) s.values) }
@@ -137,20 +113,22 @@ fn solve_together<G: Gate + Sync, R: Threads + Wait + Clone + Copy + Drop + Send
 {
     let workers = team.workers as usize;
     if team.board == BoardKind::Locked || !fits {
-        solve_locked(rt, alloc, game, team.shards, workers, gate)
+        solve_locked(rt, alloc, game, table, team.shards, workers, gate)
     } else {
-        solve_packed(rt, alloc, game, workers, gate)
+        solve_packed(rt, alloc, game, table, workers, gate)
     }
 }
 
-// The same over one word for each vertex.
+// By workers over one word for each vertex.
 fn solve_packed<G: Gate + Sync, R: Threads + Wait + Sync>(
     rt: &R,
     alloc: Global,
     game: &Arc<Game, Global>,
+    table: PlainTable,
     workers: usize,
     gate: &G,
 ) -> Result<Settled, TeamError>
+    requires table { table.game ≡ arc_value game.now }
     requires few { height (arc_value game.now) < RANK_LIMIT }
     requires workers { 0 < workers }
     ensures game { IfOk result (λ s. s.game ≡ arc_value game.now) }
@@ -159,5 +137,5 @@ fn solve_packed<G: Gate + Sync, R: Threads + Wait + Sync>(
 {
     let own = Arc::try_clone(game).map_err(TableError::from)?;
     let board = PackedBoard::new(alloc, own, 1)?;
-    Ok(solve(rt, alloc, game, board, workers, gate)?)
+    Ok(solve_from(rt, alloc, game, table, board, workers, gate))
 }

@@ -1,0 +1,103 @@
+// What a search knows of each vertex.
+
+use game::graph::Game;
+use game::player::Player;
+use lists::list::List;
+use std::alloc::Global;
+
+/// No vertex.
+pub(crate) const NONE: u32 = u32::MAX;
+
+#[derive(Clone, Copy, PartialEq, Eq)]
+pub(crate) enum State {
+    /// Thought to be won by its priority, for no reason.
+    Open,
+    /// The same, as its successors' winners say. They may turn yet.
+    Calm,
+    /// Its successors' winners say who wins it.
+    Settled,
+}
+
+/// A vertex. A search comes to it at random and wants most of this, so it stands together, in 12 bytes.
+#[derive(Clone, Copy)]
+pub(crate) struct Cell {
+    /// Where its owner goes on, if it wins, or `NONE`. Of an open vertex some successor that is open too, or was, or `NONE`.
+    pub(crate) next: u32,
+    /// When it was settled.
+    pub(crate) time: u32,
+    pub(crate) priority: u8,
+    pub(crate) owner: Player,
+    pub(crate) state: State,
+    /// Whether it stands in the list of calm vertices.
+    pub(crate) is_listed: bool,
+}
+
+/// What stands at a number that is no vertex.
+pub(crate) const NOWHERE: Cell = Cell {
+    next: NONE,
+    time: 0,
+    priority: 0,
+    owner: Player::Even,
+    state: State::Settled,
+    is_listed: false,
+};
+
+/// All vertices, open.
+pub(crate) fn open_cells(alloc: Global, game: &Game) -> List<Cell> {
+    let mut cells = List::filled(alloc, game.vertices() as usize, NOWHERE);
+    for v in 0..game.vertices() {
+        let cell = Cell {
+            next: NONE,
+            time: 0,
+            priority: game.priority(v),
+            owner: game.owner(v),
+            state: State::Open,
+            is_listed: false,
+        };
+        cells.set(v as usize, cell);
+    }
+    cells
+}
+
+/// The player that wins where this priority is the greatest that is met again and again.
+pub(crate) fn winner_by(priority: u8) -> Player {
+    if priority % 2 == 0 {
+        Player::Even
+    } else {
+        Player::Odd
+    }
+}
+
+impl Cell {
+    /// Who is thought to win.
+    pub(crate) fn winner(self) -> Player {
+        match self.state {
+            State::Open => winner_by(self.priority),
+            _ => self.winner_by_next(),
+        }
+    }
+
+    /// Who wins where the owner goes on so, or can't win.
+    pub(crate) fn winner_by_next(self) -> Player {
+        match self.owner {
+            _ if self.next != NONE => self.owner,
+            Player::Even => Player::Odd,
+            Player::Odd => Player::Even,
+        }
+    }
+
+    /// Whether the vertex has its winner by way of this successor: by the move, or by all steps.
+    pub(crate) fn rests_on(self, t: u32) -> bool {
+        self.state != State::Open && (self.next == NONE || self.next == t)
+    }
+
+    /// Whether its priority is the loser's.
+    pub(crate) fn is_bad(self) -> bool {
+        self.winner() != winner_by(self.priority)
+    }
+
+    /// Whether the search goes by the winner, where open vertices of less than this priority are yet to be drawn.
+    pub(crate) fn is_solid(self, priority: u8) -> bool {
+        self.state == State::Settled || self.priority >= priority
+    }
+}

@@ -1,0 +1,350 @@
+// The search: iteration of the nested fixpoint with justifications (Lapauw, Bruynooghe, Denecker 2020), where layers are drawn as attractors are.
+//
+// Open vertices of the least priority are looked at. Where their successors say otherwise, they turn: they are settled for the other player, who
+// takes all that it can force by that, what rested on what it took is opened, and what open vertices of lesser priorities draw is settled anew. Else
+// they are calm, and are settled. These hold:
+//
+// - when `look(p)` begins, all vertices of less than p are settled;
+// - what a calm or settled vertex rests on has the same winner, and is settled or has at least the priority of the look, of the drawing or, once all
+//   has fallen, of the turn;
+// - what isn't settled is won by its priority's player;
+// - `next` is `NONE` just where the owner loses, but at open vertices.
+//
+// At the end all is settled, and moves and winners fit.
+
+use crate::cells::{Cell, NONE, NOWHERE, State, winner_by};
+use crate::layers::{Layers, PRIORITIES};
+use game::graph::Game;
+use game::player::Player;
+use game::predecessors::Predecessors;
+use gauge::Gauge;
+use lists::list::List;
+use std::alloc::Global;
+
+// A prime greater than any row is long: with this step all of a row is come to.
+const PRIME: u32 = 2_654_435_761;
+
+// There may be so many looks at vertices and edges, and so many times those that see the game once.
+const LEAST_BUDGET: u64 = 67_108_864;
+
+const TIMES: u64 = 300;
+
+// What is done with what leads to a changed vertex.
+#[derive(Clone, Copy)]
+enum Step {
+    Take,
+    Open,
+    Join,
+}
+
+#[derive(Drop)]
+struct Search<'g> {
+    game: &'g Game,
+    before: &'g Predecessors,
+    gauge: Option<&'g Gauge>,
+    cells: &'g mut List<Cell>,
+    // For each priority the open vertices, and others that were.
+    open: Layers,
+    // For each priority the calm vertices, and others that were.
+    calm: Layers,
+    // What was changed, while what leads to it has to be looked at.
+    changed: List<u32>,
+    // What rests on a vertex that the other player took.
+    shaken: List<u32>,
+    // How often a bad vertex was settled.
+    now: u32,
+    looks: u64,
+}
+
+/// Settles all vertices, and tells when the last of them was settled: none where a budget of looks was spent before. What memory is
+/// refused for is left out, so that what is found is wrong.
+pub(crate) fn settle_all(
+    alloc: Global,
+    game: &Game,
+    cells: &mut List<Cell>,
+    gauge: Option<&Gauge>,
+) -> Option<u32> {
+    let Ok(before) = Predecessors::of(alloc, game) else {
+        return None;
+    };
+    let mut search = Search {
+        game,
+        before: &before,
+        gauge,
+        cells,
+        open: Layers::none(alloc),
+        calm: Layers::none(alloc),
+        changed: List::none(alloc),
+        shaken: List::none(alloc),
+        now: 0,
+        looks: 0,
+    };
+    if search.run() { Some(search.now) } else { None }
+}
+
+// How many vertices and edges there are.
+fn size(game: &Game) -> u64 {
+    let mut size = u64::from(game.vertices());
+    for v in 0..game.vertices() {
+        size = size.saturating_add(game.successors(v).len() as u64);
+    }
+    size
+}
+
+// Where a vertex leads. A number that is no vertex leads nowhere.
+fn successors(game: &Game, v: u32) -> &[u32] {
+    if v < game.vertices() {
+        game.successors(v)
+    } else {
+        &[]
+    }
+}
+
+impl Search<'_> {
+    // Whether all was settled within the budget.
+    fn run(&mut self) -> bool {
+        let budget = size(self.game)
+            .saturating_mul(TIMES)
+            .saturating_add(LEAST_BUDGET);
+        if let Some(gauge) = self.gauge {
+            gauge.begin(budget);
+        }
+        self.open_all();
+        self.draw(PRIORITIES);
+        let mut p = 0_u8;
+        for _ in 0..u64::MAX {
+            if p >= PRIORITIES || self.looks > budget {
+                break;
+            }
+            self.look(p);
+            if self.changed.is_empty() {
+                self.confirm(p);
+                p = p.saturating_add(1);
+            } else {
+                self.turn(p);
+                p = 0;
+            }
+        }
+        p >= PRIORITIES
+    }
+
+    fn open_all(&mut self) {
+        let game = self.game;
+        for v in 0..game.vertices() {
+            self.open.push(game.priority(v), v);
+        }
+    }
+
+    fn cell(&self, v: u32) -> Cell {
+        self.cells.get_or(v as usize, NOWHERE)
+    }
+
+    fn put(&mut self, v: u32, cell: Cell) {
+        self.cells.set(v as usize, cell);
+    }
+
+    // Looks at the open vertices of this priority: their successors' winners calm or turn them.
+    fn look(&mut self, p: u8) {
+        for _ in 0..u64::MAX {
+            let Some(v) = self.open.pop(p) else { break };
+            let cell = self.cell(v);
+            if cell.state == State::Open {
+                self.look_at(v, cell);
+            }
+        }
+    }
+
+    fn look_at(&mut self, v: u32, mut cell: Cell) {
+        cell.next = self.choose(v, cell, 0);
+        if cell.winner_by_next() == cell.winner() {
+            self.calm_down(v, cell);
+        } else {
+            self.settle(v, cell);
+        }
+    }
+
+    // What is calm isn't settled before all of its priority is, so what rests on it needn't fall when it is opened.
+    fn calm_down(&mut self, v: u32, mut cell: Cell) {
+        if !cell.is_listed {
+            self.calm.push(cell.priority, v);
+        }
+        cell.state = State::Calm;
+        cell.is_listed = true;
+        self.put(v, cell);
+    }
+
+    // Settles a vertex by its move, at a time of its own if it is bad.
+    fn settle(&mut self, v: u32, mut cell: Cell) {
+        cell.state = State::Settled;
+        if cell.is_bad() {
+            self.now = self.now.saturating_add(1);
+        }
+        cell.time = self.now;
+        self.put(v, cell);
+        self.changed.push(v);
+    }
+
+    // Settles the calm vertices of this priority: no vertex up to it is open.
+    fn confirm(&mut self, p: u8) {
+        for _ in 0..u64::MAX {
+            let Some(v) = self.calm.pop(p) else { break };
+            let mut cell = self.cell(v);
+            cell.is_listed = false;
+            if cell.state == State::Calm {
+                cell.state = State::Settled;
+                cell.time = self.now;
+            }
+            self.put(v, cell);
+        }
+    }
+
+    // Vertices of this priority turned. What they shook is opened only once all is taken: opened, a bad one would be thought the other
+    // player's, and its neighbours be taken for that.
+    fn turn(&mut self, p: u8) {
+        self.spread(Step::Take, p);
+        for _ in 0..u64::MAX {
+            let Some(v) = self.shaken.pop() else { break };
+            if self.cell(v).winner() == winner_by(p) {
+                self.unsettle(v);
+            }
+        }
+        self.spread(Step::Open, p);
+        self.draw(p);
+    }
+
+    // Does this with what leads to changed vertices, and with what leads to what is changed by that.
+    fn spread(&mut self, step: Step, p: u8) {
+        for _ in 0..u64::MAX {
+            let Some(v) = self.changed.pop() else { break };
+            self.pass(v, step, p);
+        }
+    }
+
+    fn pass(&mut self, v: u32, step: Step, p: u8) {
+        let row = self.before.get(v);
+        self.looks = self
+            .looks
+            .saturating_add(row.len() as u64)
+            .saturating_add(1);
+        for u in row {
+            match step {
+                Step::Take => self.take(*u, v, p),
+                Step::Open => self.fall(*u, v),
+                Step::Join => self.join(*u, v, p),
+            }
+        }
+    }
+
+    // Takes a vertex that led to what turned, if its winner has no other way, and its priority is no greater.
+    fn take(&mut self, u: u32, turned: u32, p: u8) {
+        let mut cell = self.cell(u);
+        let loser = winner_by(p);
+        if cell.winner() != loser || !cell.rests_on(turned) {
+            return;
+        }
+        if cell.priority > p {
+            self.shaken.push(u);
+            return;
+        }
+        cell.next = if cell.owner == loser {
+            self.choose(u, cell, 0)
+        } else {
+            turned
+        };
+        if cell.winner_by_next() == loser {
+            self.put(u, cell);
+            self.shaken.push(u);
+        } else {
+            self.settle(u, cell);
+        }
+    }
+
+    fn fall(&mut self, u: u32, opened: u32) {
+        if self.cell(u).rests_on(opened) {
+            self.unsettle(u);
+        }
+    }
+
+    fn unsettle(&mut self, v: u32) {
+        let mut cell = self.cell(v);
+        match cell.state {
+            State::Open => return,
+            State::Calm => {}
+            State::Settled => self.changed.push(v),
+        }
+        cell.state = State::Open;
+        self.put(v, cell);
+        self.open.push(cell.priority, v);
+    }
+
+    // Settles what open vertices of less than this priority draw, and what that draws, the greatest priority first.
+    fn draw(&mut self, p: u8) {
+        for q in (0..p).rev() {
+            if let Some(gauge) = self.gauge {
+                gauge.put(self.looks);
+            }
+            self.draw_from(q);
+        }
+    }
+
+    fn draw_from(&mut self, p: u8) {
+        for place in 0..usize::MAX {
+            let Some(v) = self.open.at(p, place) else {
+                break
+            };
+            if self.cell(v).state == State::Open {
+                self.changed.push(v);
+                self.spread(Step::Join, p);
+            }
+        }
+    }
+
+    // Settles an open vertex of less than this priority, if its solid successors do. This one is solid now.
+    fn join(&mut self, u: u32, drawn: u32, p: u8) {
+        let mut cell = self.cell(u);
+        if cell.state != State::Open || cell.priority >= p {
+            return;
+        }
+        cell.next = if self.cell(drawn).winner() == cell.owner {
+            drawn
+        } else {
+            self.choose(u, cell, p)
+        };
+        if cell.next == NONE || self.cell(cell.next).is_solid(p) {
+            self.settle(u, cell);
+        } else {
+            self.put(u, cell);
+        }
+    }
+
+    // A solid successor that the owner wins, or else one that isn't solid, or `NONE`. Of priority 0 all are solid.
+    fn choose(&mut self, u: u32, cell: Cell, p: u8) -> u32 {
+        if cell.next != NONE && !self.cell(cell.next).is_solid(p) {
+            return cell.next;
+        }
+        let row = successors(self.game, u);
+        let length = row.len();
+        if length == 0 {
+            return NONE;
+        }
+        // What turns first often stands first, so it is by chance where to look first, and what to look at next.
+        let mut place = self.now.wrapping_mul(PRIME) as usize % length;
+        let step = PRIME as usize % length;
+        let mut other = NONE;
+        for _ in 0..length {
+            self.looks = self.looks.saturating_add(1);
+            let t = if place < length { row[place] } else { NONE };
+            let next = self.cell(t);
+            if !next.is_solid(p) {
+                other = t;
+            } else if next.winner() == cell.owner {
+                return t;
+            }
+            place = place.wrapping_add(step);
+            if place >= length {
+                place = place.wrapping_sub(length);
+            }
+        }
+        other
+    }
+}
