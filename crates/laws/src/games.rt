@@ -1,7 +1,6 @@
 // What holds of all parity games and their progress measures (Jurdziński 2000, Small progress measures for solving parity games).
 
 ghost use Rattle.progress.specs.Laws.{
-  ClaimsLieBelow,
   DualTop,
   DualWins,
   LeastDecides,
@@ -90,12 +89,4 @@ pub fn lifting_ends()
 #[tactic(auto, using(progress::proofs::Ranks::rank_is))]
 pub fn rank_is_code()
     ensures { RankIsCode }
-{}
-
-/// What a good claim says over a table that lies below lies below too. Where it didn't, one could go on for ever among the
-/// vertices whose claims are too high, and the greatest priority of a cycle there would be neither odd, by the measures of
-/// a progress table, nor even, by the ranks.
-#[tactic(auto, using(progress::proofs::Claims::claims_lie_below))]
-pub fn claims_lie_below()
-    ensures { ClaimsLieBelow }
 {}

@@ -21,7 +21,6 @@ pub use Rattle.std.proofs.lemmas.Option.{get_or_from_slice_get, slice_get-get_or
 pub use Rattle.game.specs.Wins.{Edge, IsOf, IsStrategy, OddWins, Wins, WinsBy, greatest_met, priority_at}
 pub use Rattle.progress.specs.Tables.{IsOpening, IsPlain, IsSettled, IsTableStored, LiesBelow, GameTable}
 pub use Rattle.progress.specs.Lifting.{AreLifts, AreRises, IsLifted, code, decode, height, rank, lists_up_to, sum_of, total}
-pub use Rattle.progress.specs.Claim.{Claimed, GoesOn, IsGoodClaim, IsGoodEntry, claimed_at, claimed_entry, value_or}
 pub use Rattle.std.proofs.lemmas.Slice.Zip.{AllZip-long}
 pub use Rattle.progress.specs.Progs.{AreAtBounds, IsBetter, IsDemandOf, IsLiftOf, IsProgAt, IsProgUnder, bounds}
 pub use Rattle.std.specs.Ordering.{is_gt, is_le, is_lt, nat_cmp}

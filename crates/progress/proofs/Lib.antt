@@ -28,7 +28,6 @@ pub mod Gathering
 pub mod Opening
 pub mod Lifting
 pub mod Dual
-pub mod Claims
 pub mod Places
 pub mod Joined
 pub mod Rising
@@ -39,4 +38,3 @@ pub mod Levels
 pub mod Proposals
 pub mod StoredProposals
 pub mod Moves
-pub mod Spanned

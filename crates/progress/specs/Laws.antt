@@ -6,7 +6,6 @@ use Rattle.game.specs.Game.{Game, IsGame, Vertex, dual, greatest, vertex}
 use Rattle.game.specs.Wins.{OddWins, Wins}
 use Rattle.progress.specs.Measure.{IsAtMost, IsMeasure, IsProg, IsRank, Measure, Top}
 use Rattle.progress.specs.Progress.{IsLeastTable, IsProgress, opening, value_at}
-use Rattle.progress.specs.Claim.{Claimed, IsGoodClaim, claimed_entry}
 use Rattle.progress.specs.Lifting.{AreLifts, AreRises, height, rank}
 use Rattle.progress.specs.Tables.{IsPlain, LiesBelow, GameTable}
 
@@ -78,9 +77,3 @@ LiftingEnds = (g : Game) (tables : List (List Measure)) (table : List Measure) �
 -- The number of the measures below one is its counts read in mixed radix.
 abbrev pub RankIsCode : Type 0
 RankIsCode = (g : Game) (m : Measure) → IsMeasure g m → IsRank g m (rank g m)
-
--- What a good claim says over a table that lies below lies below too.
-abbrev pub ClaimsLieBelow : Type 0
-ClaimsLieBelow =
-    (t : GameTable) (entries : List (Option Claimed)) → IsPlain t → IsGoodClaim t.game t.values entries → (v : ℕ) (x : Claimed) → claimed_entry entries v ≡ Some x
-    → LiesBelow t.game v x.value

@@ -2,7 +2,6 @@ pub mod Measure
 pub mod MeasureText
 pub mod Progress
 pub mod Lifting
-pub mod Claim
 pub mod Laws
 pub mod View
 pub mod Progs

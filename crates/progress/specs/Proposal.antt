@@ -106,10 +106,6 @@ HasReasonsAt c v = (digit : ℕ) → digit ≤ length (components c.game) → Ha
 abbrev pub IsGoodVertex : Proposal → ℕ → Type 0
 IsGoodVertex c v = IsStill c.game c.values v × HasReasonsAt c v
 
--- So are all vertices of a span, where spans have so many each.
-abbrev pub IsGoodSpan : Proposal → (size span : ℕ) → Type 0
-IsGoodSpan c size span = (v : ℕ) → span * size ≤ v → v < span * size + size → v < length c.game.vertices → IsGoodVertex c v
-
 abbrev pub AreGoodVertices : Proposal → Type 0
 AreGoodVertices c = (v : ℕ) → v < length c.game.vertices → IsGoodVertex c v
 

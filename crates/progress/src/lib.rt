@@ -10,6 +10,5 @@ pub mod proposal;
 pub mod rank;
 pub mod rows;
 pub mod settle;
-mod spans;
 pub mod table;
 pub mod writer;

@@ -3,16 +3,15 @@
 ghost use Rattle.std.specs.Prelude.{◌≡◌, ◌<◌, ◌≤◌, ◌↔◌, ◌+◌, IfOk, IfSome, IsSome, IsTrue, if◌then◌else◌, length};
 ghost use Rattle.std.specs.List.{AllByRecursion};
 ghost use Rattle.game.specs.Game.{IsGame};
+ghost use Rattle.game.specs.declared.player.Player.TheVariants.{Odd};
 ghost use Rattle.progress.specs.Measure.{Counts, IsMeasure, Top, components, counted_at};
 ghost use Rattle.progress.specs.Progress.{IsLeastTable, IsTable};
-ghost use Rattle.game.specs.declared.player.Player.TheVariants.{Odd};
-ghost use Rattle.progress.specs.Proposal.{AreEnough, Falls, HasReasonsAt, HasReasonsFor, IsGoodProposal, IsGoodVertex, AreGoodVertices, IsReason, IsRising, blank, counted_of, height_index, shift_at, with_height, with_value};
+ghost use Rattle.progress.specs.Proposal.{AreEnough, AreGoodVertices, Falls, HasReasonsAt, HasReasonsFor, IsGoodProposal, IsGoodVertex, IsReason, IsRising, blank, counted_of, height_index, shift_at, with_height, with_value};
 
 use crate::bounds::bounds;
 use crate::measure::Measure;
 use crate::progs::are_within;
 use crate::rows::Rows;
-use crate::spans::are_good_by;
 use crate::table::Settled;
 use arrayvec::ArrayVec;
 use game::graph::Game;
@@ -21,7 +20,6 @@ use std::alloc::Global;
 use std::cmp::Ordering;
 use std::marker::Model;
 use std::snapshot::Snapshot;
-use std::thread::Threads;
 use text::Memory;
 
 /// How many priorities have a shift.
@@ -273,8 +271,8 @@ impl Proposal {
         true
     }
 
-    /// Whether no lift raises a vertex, and its value has its reasons.
-    pub(crate) fn is_good_at(&self, game: &Game, v: u32) -> bool
+    // Whether no lift raises a vertex, and its value has its reasons.
+    fn is_good_at(&self, game: &Game, v: u32) -> bool
         requires same { self.now.game ≡ game.now }
         requires vertex { v < length game.now.vertices }
         ensures { IsTrue result ↔ IsGoodVertex self.now v }
@@ -282,8 +280,8 @@ impl Proposal {
         self.values.is_still(game, v) && self.has_reasons(game, v)
     }
 
-    /// Whether all vertices are good. It comes to each once.
-    pub(crate) fn are_good(&self, game: &Game) -> bool
+    // Whether all vertices are good.
+    fn are_good(&self, game: &Game) -> bool
         requires same { self.now.game ≡ game.now }
         ensures { IsTrue result ↔ AreGoodVertices self.now }
     {
@@ -295,22 +293,6 @@ impl Proposal {
         true
     }
 
-    // The values that are proposed, where the vertices were found good and shifts rise.
-    fn settled_where(self, are_good: bool) -> Option<Settled>
-        requires { IsTrue are_good ↔ AreGoodVertices self }
-        ensures good { IsSome result ↔ IsGoodProposal self }
-        ensures game { IfSome result (λ s. s.game ≡ self.game) }
-        ensures least { IfSome result (λ s. IsLeastTable self.game s.values) }
-        ensures values { IfSome result (λ s. s.values ≡ self.values) }
-    {
-        self.known();
-        if !are_good || !self.is_rising() {
-            return None;
-        }
-        let Proposal { values, of, .. } = self;
-        Some(Settled::of_rows(values, of))
-    }
-
     /// The values that are proposed, where the proposal is good: then they are the least progress table. It takes no memory, and
     /// comes to each vertex once.
     pub fn into_settled(self, game: &Game) -> Option<Settled>
@@ -320,26 +302,12 @@ impl Proposal {
         ensures least { IfSome result (λ s. IsLeastTable game.now s.values) }
         ensures values { IfSome result (λ s. s.values ≡ self.values) }
     {
-        let are_good = self.are_good(game);
-        self.settled_where(are_good)
-    }
-
-    /// The values that are proposed, where the proposal is good. So many threads share the vertices of a large game.
-    pub fn into_settled_by<R: Threads + Sync>(
-        self,
-        rt: &R,
-        alloc: Global,
-        game: &Game,
-        workers: usize,
-    ) -> Option<Settled>
-        requires same { self.game ≡ game.now }
-        ensures good { IsSome result ↔ IsGoodProposal self }
-        ensures game { IfSome result (λ s. s.game ≡ game.now) }
-        ensures least { IfSome result (λ s. IsLeastTable game.now s.values) }
-        ensures values { IfSome result (λ s. s.values ≡ self.values) }
-    {
-        let are_good = are_good_by(rt, alloc, &self, game, workers);
-        self.settled_where(are_good)
+        self.known();
+        if !self.is_rising() || !self.are_good(game) {
+            return None;
+        }
+        let Proposal { values, of, .. } = self;
+        Some(Settled::of_rows(values, of))
     }
 }
 
