@@ -1,5 +1,5 @@
 -- Where Even doesn't win, top is at most the value of every progress table.
-use Rattle.progress.proofs.Common.{◌≡◌, ◌≢◌, ℕ, List, sym, subst, ◌∙◌, Game, IsGame, Wins, Measure, Top, Counts, IsAtMost, IsProgress, value_at, LiesBelow}
+use Rattle.progress.proofs.Common.{◌≢◌, ℕ, List, Game, IsGame, Wins, Measure, Top, Counts, IsAtMost, IsProgress, value_at, LiesBelow}
 use Rattle.progress.proofs.Measures.{at_most_top}
 use Rattle.progress.proofs.TableWins.{table_wins}
 

@@ -99,6 +99,7 @@ module _ (c : Proposal) (game : IsGame c.game) (progress : IsProgress c.game c.v
       (subst (λ m. IsBelow (cut (kept g p) (low t)) (cut (kept g p) m)) (sym d.is)
       (reaches_below g p (low t) d.counts odd (subst (λ m. Reaches g p (low t) m) d.is reaches)))
 
+  -- and so the value at t, which has as much but for one, isn't at most the other
   added : (k u t : ℕ) → k ≤ length (components g) → Above k u → Reaches g (priority g u) (low t) (low u) → priority g u ≡ counted_at g k
       → HasAllButOne c.values k u t → IsAtMost (cut k (high t)) (cut k (low t)) → ⊥
   added zero u t within above reaches e all h = (let m = below_greatest g u in let l = odd_down_long (greatest g) in omega arith)
@@ -271,10 +272,10 @@ module _ (c : Proposal) (game : IsGame c.game) (progress : IsProgress c.game c.v
       empty_below k j e = let same : k ≡ j = omega arith in subst (λ i. ((v : ℕ) → Above k v → ⊥) → (v : ℕ) → Above i v → ⊥) same (λ h. h)
 
   under : (v : ℕ) → IsAtMost (high v) (low v)
-  under v = elim (at_most_or_below (low v) (high v)) [ inl b ↦ absurd (empty (length (components g)) (omega arith) v (whole_above v b)) | inr l ↦ l ]
-    where
-      whole_above : (v : ℕ) → IsBelow (low v) (high v) → Above (length (components g)) v
-      whole_above v b = cut_all_below g (low v) (high v) (low_measure v) (high_measure v) b
+  under v = elim (at_most_or_below (low v) (high v)) [
+    | inl b ↦ absurd (empty (length (components g)) (omega arith) v (cut_all_below g (low v) (high v) (low_measure v) (high_measure v) b))
+    | inr l ↦ l
+  ]
 
 pub good_settled : (c : Proposal) → IsGame c.game → IsTable c.game c.values → IsGoodProposal c → IsSettled (record { game = c.game; values = c.values })
 good_settled c game table good =

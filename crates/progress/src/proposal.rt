@@ -3,10 +3,10 @@
 ghost use Rattle.std.specs.Prelude.{◌≡◌, ◌<◌, ◌≤◌, ◌↔◌, ◌+◌, IfOk, IfSome, IsSome, IsTrue, if◌then◌else◌, length};
 ghost use Rattle.std.specs.List.{AllByRecursion};
 ghost use Rattle.game.specs.Game.{IsGame};
+ghost use Rattle.game.specs.declared.player.Player.TheVariants.{Odd};
 ghost use Rattle.progress.specs.Measure.{Counts, IsMeasure, Top, components, counted_at};
 ghost use Rattle.progress.specs.Progress.{IsLeastTable, IsTable};
-ghost use Rattle.game.specs.declared.player.Player.TheVariants.{Odd};
-ghost use Rattle.progress.specs.Proposal.{AreEnough, Falls, HasReasonsAt, HasReasonsFor, IsGoodProposal, IsGoodVertex, AreGoodVertices, IsReason, IsRising, blank, counted_of, height_index, shift_at, with_height, with_value};
+ghost use Rattle.progress.specs.Proposal.{AreEnough, AreGoodVertices, Falls, HasReasonsAt, HasReasonsFor, IsGoodProposal, IsGoodVertex, IsReason, IsRising, blank, counted_of, height_index, shift_at, with_height, with_value};
 
 use crate::bounds::bounds;
 use crate::measure::Measure;
