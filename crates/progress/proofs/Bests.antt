@@ -24,9 +24,6 @@ module _ (g : Game) (game : IsGame g) (v : ℕ) (h : v < length g.vertices) wher
   here_is : (x : Vertex) × (vertex g v ≡ Some x) × IsVertex (length g.vertices) x
   here_is = let x = vertex_here g v h in (x.0, x.1, all_got (IsVertex (length g.vertices)) g.vertices v x.0 game.vertices x.1)
 
-  pub its_priority : (p : ℕ) → option_map (λ x. x.priority) (vertex g v) ≡ Some p → p < 255
-  its_priority p e = let x = here_is in let same = vertex_tells (λ (y : Vertex). y.priority) g v p x.0 x.1 e in omega (arith, x.2.priority, same)
-
   pub its_successors : (ts : List ℕ) → option_map (λ x. x.successors) (vertex g v) ≡ Some ts → AllByRecursion (λ t. t < length g.vertices) ts × (0 < length ts)
   its_successors ts e =
       let x = here_is in

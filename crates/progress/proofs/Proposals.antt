@@ -2,7 +2,7 @@
 use Rattle.progress.proofs.Common.{◌≡◌, ℕ, zero, suc, ◌+◌, ◌-◌, ◌/◌, ◌<◌, ◌≤◌, ◌⊎◌, true, false, List, length, refl, sym, ap, subst, ◌∙◌, inl, inr}
 use Rattle.progress.proofs.Common.{arith, true≢false, Some, eqb_tells, leb_tells, get_or_past, Ordering, Less, Equal, Greater, is_le, is_lt}
 use Rattle.progress.proofs.Common.{nat_cmp, Player, Even, Odd, Vertex, Game, IsGame, greatest, vertex, priority_at, greatest_met, components, measure_cmp, Measure, Top}
-use Rattle.progress.proofs.Common.{Counts, IsAtMost, IsBelow, IsMeasure, IsProgress, IsTable, Reaches, is_odd, kept, value_at, IsSettled}
+use Rattle.progress.proofs.Common.{Counts, IsAtMost, IsBelow, IsMeasure, IsProgress, IsTable, Reaches, is_odd, kept, value_at, IsLeastTable}
 use Rattle.std.proofs.Common.{◌^◌, div-mul-le_self}
 use Rattle.std.proofs.lemmas.Nat.{le-div, pow_pos, shr-shr}
 use Rattle.progress.specs.Measure.{digit_of, counted_at, cut}
@@ -277,10 +277,7 @@ module _ (c : Proposal) (game : IsGame c.game) (progress : IsProgress c.game c.v
     | inr l ↦ l
   ]
 
-pub good_settled : (c : Proposal) → IsGame c.game → IsTable c.game c.values → IsGoodProposal c → IsSettled (record { game = c.game; values = c.values })
-good_settled c game table good =
+pub good_least : (c : Proposal) → IsGame c.game → IsTable c.game c.values → IsGoodProposal c → IsLeastTable c.game c.values
+good_least c game table good =
     let progress = table_still c.game c.values table (λ v h. (good.vertices v h).0) in
-    record {
-      game = game;
-      least = record { progress = progress; under = λ v h other is. under c game progress good other is v };
-    }
+    record { progress = progress; under = λ v h other is. under c game progress good other is v }

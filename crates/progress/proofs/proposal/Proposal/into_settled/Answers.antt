@@ -1,13 +1,16 @@
 use Rattle.progress.proofs.Common.{◌∙◌, ap, length, refl, subst, sym}
 use Rattle.progress.specs.Proposal.{IsGoodProposal, Proposal}
-use Rattle.progress.proofs.Proposals.{good_settled}
+use Rattle.progress.proofs.Proposals.{good_least}
 use Rattle.progress.proofs.proposal.Proposal.into_settled.Goals as goal
 
 pub of_rows-requires : goal.of_rows-requires
 of_rows-requires c =
     let good : IsGoodProposal c.args.self = record { rising = c.is_rising.ensures.0 c.if-not-is_rising.false; vertices = c.are_good.ensures.0 c.if-not-are_good.false } in
     record {
-      settled = good_settled _ c.self.invariant.game c.self.invariant.table (subst (λ (d : Proposal). IsGoodProposal d) (sym c.self.view_is) good);
+      settled = record {
+        game = c.self.invariant.game;
+        least = good_least _ c.self.invariant.game c.self.invariant.table (subst (λ (d : Proposal). IsGoodProposal d) (sym c.self.view_is) good);
+      };
       wide = c.self.invariant.wide ∙ ap length c.self.invariant.bounded;
     }
 
