@@ -1,5 +1,5 @@
 -- What holds of all parity games and their progress measures (Jurdziński 2000).
-use Rattle.std.specs.Prelude.{◌≡◌, ◌≢◌, ◌<◌, ◌⊎◌, ◌↔◌, ◌≤◌, ◌*◌, ℕ, Contains, List, Option, Some, length}
+use Rattle.std.specs.Prelude.{◌≡◌, ◌≢◌, ◌<◌, ◌⊎◌, ◌↔◌, ◌≤◌, ◌*◌, ℕ, Contains, List, Some, length}
 use Rattle.game.specs.declared.player.Player.TheVariants.{Even}
 use Rattle.forms.specs.declared.limits.TheConstants.{GREATEST_PRIORITY}
 use Rattle.game.specs.Game.{Game, IsGame, Vertex, dual, greatest, vertex}
@@ -7,7 +7,6 @@ use Rattle.game.specs.Wins.{OddWins, Wins}
 use Rattle.progress.specs.Measure.{IsAtMost, IsMeasure, IsProg, IsRank, Measure, Top}
 use Rattle.progress.specs.Progress.{IsLeastTable, IsProgress, opening, value_at}
 use Rattle.progress.specs.Lifting.{AreLifts, AreRises, height, rank}
-use Rattle.progress.specs.Tables.{IsPlain, LiesBelow, GameTable}
 
 -- For each priority and measure there is a least measure that reaches it.
 abbrev pub ProgExists : Type 0
