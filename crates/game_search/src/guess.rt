@@ -12,19 +12,19 @@ use std::alloc::Global;
 #[derive(Drop)]
 pub struct Guess {
     cells: List<Cell>,
-    // For each time the priority of the bad vertex that was settled then, and one, or 0 where there is none in the end.
-    pub(crate) peaks: List<u8>,
+    // For each time one more than the priority of the vertex that was settled then, if it is bad in the end, and else 0.
+    pub(crate) bad_at: List<u8>,
 }
 
 // Those of times up to the last one.
-fn peaks(alloc: Global, cells: &List<Cell>, last: u32) -> List<u8> {
-    let mut peaks = List::filled(alloc, last as usize + 1, 0);
+fn bad_at(alloc: Global, cells: &List<Cell>, last: u32) -> List<u8> {
+    let mut bad_at = List::filled(alloc, last as usize + 1, 0);
     for cell in cells.as_slice() {
         if cell.is_bad() {
-            peaks.set(cell.time as usize, cell.priority.saturating_add(1));
+            bad_at.set(cell.time as usize, cell.priority.saturating_add(1));
         }
     }
-    peaks
+    bad_at
 }
 
 impl Guess {
@@ -34,7 +34,7 @@ impl Guess {
         let mut cells = open_cells(alloc, game);
         match settle_all(alloc, game, &mut cells, gauge) {
             Some(last) => Some(Guess {
-                peaks: peaks(alloc, &cells, last),
+                bad_at: bad_at(alloc, &cells, last),
                 cells,
             }),
             None => None,

@@ -35,7 +35,7 @@ pub struct Ranks<'g> {
 impl Guess {
     /// The ranks of what a player wins, of so many counts each. Where memory is refused they are wrong.
     pub fn ranks(&self, alloc: Global, player: Player, width: usize) -> Ranks<'_> {
-        let words = self.peaks.len().saturating_mul(width);
+        let words = self.bad_at.len().saturating_mul(width);
         let most = self.vertices().saturating_mul(WORDS).saturating_add(1);
         let mut ranks = Ranks {
             guess: &*self,
@@ -53,8 +53,8 @@ impl Ranks<'_> {
     fn fill(&mut self, alloc: Global) {
         let mut counts = List::filled(alloc, self.width, 0);
         let mut rest = 0_usize;
-        for peak in self.guess.peaks.as_slice() {
-            self.count(*peak, counts.as_mut_slice());
+        for bad in self.guess.bad_at.as_slice() {
+            self.count(*bad, counts.as_mut_slice());
             if rest == 0 {
                 self.table.extend(counts.as_slice());
                 rest = self.step;
@@ -72,9 +72,9 @@ impl Ranks<'_> {
         self.width.saturating_sub(usize::from(below))
     }
 
-    // Counts a time.
-    fn count(&self, peak: u8, counts: &mut [u32]) {
-        for place in self.kept(peak)..counts.len() {
+    // Counts the vertex that was settled at a time.
+    fn count(&self, bad: u8, counts: &mut [u32]) {
+        for place in self.kept(bad)..counts.len() {
             counts[place] = counts[place].saturating_add(1);
         }
     }
@@ -90,8 +90,8 @@ impl Ranks<'_> {
             rank.copy_from_slice(counts);
         }
         let later = row.saturating_mul(self.step).saturating_add(1);
-        for peak in self.guess.peaks.slice(later, time + 1) {
-            self.count(*peak, rank);
+        for bad in self.guess.bad_at.slice(later, time + 1) {
+            self.count(*bad, rank);
         }
         let kept = self.kept(cell.priority).min(rank.len());
         rank[kept..].fill(0);

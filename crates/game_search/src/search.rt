@@ -49,8 +49,8 @@ struct Search<'g> {
     calm: Layers,
     // What was changed, while what leads to it has to be looked at.
     changed: List<u32>,
-    // What rests on a vertex that the other player took.
-    shaken: List<u32>,
+    // What rested on a vertex that the other player took.
+    unsupported: List<u32>,
     // How often a bad vertex was settled.
     now: u32,
     looks: u64,
@@ -75,7 +75,7 @@ pub(crate) fn settle_all(
         open: Layers::none(alloc),
         calm: Layers::none(alloc),
         changed: List::none(alloc),
-        shaken: List::none(alloc),
+        unsupported: List::none(alloc),
         now: 0,
         looks: 0,
     };
@@ -157,14 +157,14 @@ impl Search<'_> {
     fn look_at(&mut self, v: u32, mut cell: Cell) {
         cell.next = self.choose(v, cell, 0);
         if cell.winner_by_next() == cell.winner() {
-            self.calm_down(v, cell);
+            self.set_calm(v, cell);
         } else {
             self.settle(v, cell);
         }
     }
 
     // What is calm isn't settled before all of its priority is, so what rests on it needn't fall when it is opened.
-    fn calm_down(&mut self, v: u32, mut cell: Cell) {
+    fn set_calm(&mut self, v: u32, mut cell: Cell) {
         if !cell.is_listed {
             self.calm.push(cell.priority, v);
         }
@@ -198,12 +198,14 @@ impl Search<'_> {
         }
     }
 
-    // Vertices of this priority turned. What they shook is opened only once all is taken: opened, a bad one would be thought the other
+    // Vertices of this priority turned. What lost its support by that is opened only once all is taken: opened, a bad one would be thought the other
     // player's, and its neighbours be taken for that.
     fn turn(&mut self, p: u8) {
         self.spread(Step::Take, p);
         for _ in 0..u64::MAX {
-            let Some(v) = self.shaken.pop() else { break };
+            let Some(v) = self.unsupported.pop() else {
+                break
+            };
             if self.cell(v).winner() == winner_by(p) {
                 self.unsettle(v);
             }
@@ -243,7 +245,7 @@ impl Search<'_> {
             return;
         }
         if cell.priority > p {
-            self.shaken.push(u);
+            self.unsupported.push(u);
             return;
         }
         cell.next = if cell.owner == loser {
@@ -253,7 +255,7 @@ impl Search<'_> {
         };
         if cell.winner_by_next() == loser {
             self.put(u, cell);
-            self.shaken.push(u);
+            self.unsupported.push(u);
         } else {
             self.settle(u, cell);
         }
