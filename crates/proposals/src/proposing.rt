@@ -1,27 +1,31 @@
-// The least progress table that is guessed, as a proposal.
+// The least progress tables that are guessed, as proposals.
 
-ghost use Rattle.std.specs.Prelude.{◌≡◌, ◌≤◌, IfSome, length};
-ghost use Rattle.game.specs.Game.{dual};
+ghost use Rattle.std.specs.Prelude.{◌≡◌, ◌<◌, ◌≤◌, IfSome, length};
 ghost use Rattle.progress.specs.Measure.{components};
 
+use arena_search::measures::{Measures, Side};
 use game::graph::Game;
-use guess::scale::{TOP, ZERO};
-use guess::whole::{Position, StepCounts, Whole};
+use progress::bounds::width;
 use progress::measure::COMPONENTS;
-use progress::proposal::Proposal;
+use progress::proposal::{Proposal, SHIFTS};
 use std::alloc::Global;
 
-/// How many counts a rank has at most.
-const MOST_RANKS: usize = 17;
+/// A node of a normal form at a state of a system.
+#[derive(Clone, Copy)]
+struct Place {
+    node: usize,
+    state: usize,
+}
 
-/// What is guessed of the least progress table of a game, where all of it is guessed, and all values are measures of the game. Want of memory is no
-/// guess.
-pub fn proposal(alloc: Global, whole: &Whole, game: &Game) -> Option<Proposal>
+/// What is guessed of the least progress table of a game: of the arena of a system and a normal form for Even, and of its dual for Odd. There is none where a
+/// value is no measure of the game, or for want of memory.
+pub fn proposal(alloc: Global, measures: &Measures, side: Side, game: &Game) -> Option<Proposal>
     ensures { IfSome result (λ p. p.game ≡ game.now) }
 {
-    match Proposal::new(alloc, game) {
+    let digits = width(game) + 1;
+    match Proposal::new(alloc, game, shifts(measures, side), digits) {
         Ok(mut proposal) => {
-            if propose(whole, game, &mut proposal) {
+            if propose(measures, side, game, &mut proposal) {
                 Some(proposal)
             } else {
                 None
@@ -31,89 +35,102 @@ pub fn proposal(alloc: Global, whole: &Whole, game: &Game) -> Option<Proposal>
     }
 }
 
-// Proposes the values of all vertices. The answer is whether all are known, and are measures of the game.
-fn propose(whole: &Whole, game: &Game, proposal: &mut Proposal) -> bool
+// The priority in the arena of one in the game, which is one more in the dual.
+fn in_arena(side: Side, priority: usize) -> u32 {
+    let priority = match side {
+        Side::Even => priority,
+        Side::Odd => priority.saturating_sub(1),
+    };
+    u32::try_from(priority).unwrap_or(0)
+}
+
+// How many of the lowest bits of heights don't count at each priority of the game.
+fn shifts(measures: &Measures, side: Side) -> [u32; SHIFTS] {
+    let mut shifts = [0; SHIFTS];
+    for priority in 0..SHIFTS {
+        shifts[priority] = measures.shift(side, in_arena(side, priority));
+    }
+    shifts
+}
+
+// Proposes the values of all vertices. The answer is whether they are measures of the game.
+fn propose(measures: &Measures, side: Side, game: &Game, proposal: &mut Proposal) -> bool
     requires { proposal.old.game ≡ game.now }
     ensures { proposal.new.game ≡ game.now }
 {
-    let width = proposal.rank_width();
-    let mut rank = [0; MOST_RANKS];
-    let (_, lost) = whole.ends();
-    if width > MOST_RANKS || game.vertices() <= lost || whole.part_of(0).is_none() {
-        return false;
+    // Of the two sinks the player loses the one of odd priority.
+    for sink in 0..2 {
+        if sink < game.vertices() && game.priority(sink) % 2 == 1 {
+            proposal.put_top(sink, 0);
+        }
     }
-    proposal.put_top(lost, 0, &rank[..width]);
-    propose_states(whole, game, proposal, &mut rank[..width])
-}
-
-// Proposes the values of all states, in the order in which their vertices are stored. The answer is whether they are known,
-// and are measures of the game.
-fn propose_states(whole: &Whole, game: &Game, proposal: &mut Proposal, rank: &mut [u32]) -> bool
-    requires same { proposal.old.game ≡ game.now }
-    requires rank { length rank.old ≡ length (components (dual game.now)) }
-    ensures { proposal.new.game ≡ game.now }
-{
-    for state in 0..whole.states() {
-        if !propose_state(whole, game, proposal, state, rank) {
+    let mut place = Place { node: 0, state: 0 };
+    for v in 2..game.vertices() {
+        if !propose_at(measures, side, proposal, v, place) {
             return false;
         }
+        place = after(measures, place);
     }
     true
 }
 
-// Proposes the values of all nodes at a state. The answer is whether they are known, and are measures of the game.
-fn propose_state(
-    whole: &Whole,
-    game: &Game,
-    proposal: &mut Proposal,
-    state: u32,
-    rank: &mut [u32],
-) -> bool
-    requires same { proposal.old.game ≡ game.now }
-    requires rank { length rank.old ≡ length (components (dual game.now)) }
-    ensures { proposal.new.game ≡ game.now }
-{
-    for number in 0..whole.nodes() {
-        let Some(part) = whole.part_of(number) else {
-            return false;
-        };
-        let at = Position {
-            part,
-            number,
-            state,
-        };
-        if !propose_at(whole, game, proposal, at, rank) {
-            return false;
+// The next node at the same state, or the first one at the next state: so vertices are numbered.
+fn after(measures: &Measures, place: Place) -> Place {
+    let node = place.node.saturating_add(1);
+    if node < measures.nodes() {
+        Place { node, ..place }
+    } else {
+        Place {
+            node: 0,
+            state: place.state.saturating_add(1),
         }
     }
-    true
 }
 
-// Proposes the value at a position. The answer is whether it is a measure of the game.
+// Proposes the value of a vertex. The answer is whether it is a measure of the game.
 fn propose_at(
-    whole: &Whole,
-    game: &Game,
+    measures: &Measures,
+    side: Side,
     proposal: &mut Proposal,
-    at: Position,
-    rank: &mut [u32],
+    v: u32,
+    place: Place,
 ) -> bool
-    requires same { proposal.old.game ≡ game.now }
-    requires rank { length rank.old ≡ length (components (dual game.now)) }
-    ensures { proposal.new.game ≡ game.now }
+    requires { v < length proposal.old.game.vertices }
+    ensures { proposal.new.game ≡ proposal.old.game }
 {
-    let word = whole.value(at.number, at.state, StepCounts::Counted);
-    let v = whole.vertex_of(at.number, at.state);
-    if word == ZERO || v >= game.vertices() {
-        return word == ZERO;
-    }
-    let group = whole.group(at.part);
-    whole.rank_into(at, rank);
-    if word == TOP {
-        proposal.put_top(v, group, rank);
+    let Place { node, state } = place;
+    let group = measures.group(node);
+    if measures.is_top(side, node, state) {
+        proposal.put_top(v, group);
+        proposal.put_height(0, v, measures.top_height(node, state));
         return true;
     }
     let mut counts = [0; COMPONENTS];
     let width = proposal.width().min(COMPONENTS);
-    whole.counts_into(word, &mut counts[..width]);
-    proposal.put_counts(v, group, &counts[..width], rank)
+    measures.counts_into(side, node, state, &mut counts[..width]);
+    propose_heights(measures, side, proposal, v, place, &counts[..width]);
+    proposal.put_counts(v, group, &counts[..width])
+}
+
+// Proposes a height of a vertex for each of its counts that isn't zero.
+fn propose_heights(
+    measures: &Measures,
+    side: Side,
+    proposal: &mut Proposal,
+    v: u32,
+    place: Place,
+    counts: &[u32],
+)
+    requires vertex { v < length proposal.old.game.vertices }
+    requires counts { length counts.now ≤ length (components proposal.old.game) }
+    ensures { proposal.new.game ≡ proposal.old.game }
+{
+    let width = counts.len();
+    for count in 0..width {
+        if counts[count] != 0 {
+            let priority = in_arena(side, 2 * (width - 1 - count) + 1);
+            let height = measures.height(side, priority, place.node, place.state);
+            proposal.put_height(count + 1, v, height);
+        }
+    }
 }

@@ -13,8 +13,9 @@ ghost use Rattle.verdicts.specs.Findings.{AreFindings, ArePosed, formula_found, 
 ghost use Rattle.requests.specs.Solver.{FitsBoard, IsUnsolved};
 ghost use Rattle.requests.specs.Writers.{AreKept, Lent};
 
-use crate::guessing::{guessed_dual, guessed_table};
+use crate::guessing::guessed_table;
 use crate::lifting::{SolvedGame, Winners, state_marks};
+use arena_search::measures::Side;
 use certify::raised::raised_table;
 use evidence::error::EvidenceError;
 use evidence::evidence::Evidence;
@@ -295,7 +296,7 @@ fn settle_posed<O: Observer + Sync, H: Threads + Wait + Clone + Copy + Drop + Se
         vertices: game.vertices(),
     });
     require_board(game, options.board)?;
-    if let Some(settled) = guessed_table(alloc, &posed.texts, posed.priorities, game) {
+    if let Some(settled) = guessed_table(alloc, &posed.texts, posed.priorities, Side::Even, game) {
         return Ok(settled);
     }
     let workers = options.workers as usize;
@@ -358,7 +359,7 @@ pub fn odd_evidence_found(alloc: Global, found: &Findings) -> Result<Evidence, E
     let Ok(turned) = dual(alloc, game) else {
         return Err(EvidenceError::Memory);
     };
-    match guessed_dual(alloc, &found.texts, solution.priorities, &turned) {
+    match guessed_table(alloc, &found.texts, solution.priorities, Side::Odd, &turned) {
         Some(settled) => odd_evidence_of(alloc, game, &turned, &settled),
         None => odd_evidence_from(alloc, game, &solution.settled),
     }
