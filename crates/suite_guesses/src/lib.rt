@@ -2,6 +2,8 @@
 #![tactic(auto)]
 
 #[cfg(test)]
+mod arena_searches;
+#[cfg(test)]
 mod claims_by_hand;
 #[cfg(test)]
 mod common;
