@@ -35,7 +35,7 @@ impl Search {
             if found < FEW {
                 level = self.walk(arena, level);
             }
-            if self.left == 0 || !self.begin_level(arena) {
+            if self.left == 0 || !self.begin_level() {
                 break;
             }
             level = level.saturating_add(1);
@@ -226,7 +226,7 @@ impl Search {
     }
 
     // The binders that are gained in the next level are new. The answer is whether there are some.
-    fn begin_level(&mut self, arena: &Arena) -> bool {
+    fn begin_level(&mut self) -> bool {
         let mut is_new = false;
         for place in 0..self.order.len() {
             let number = self.order.get_or(place, 0);

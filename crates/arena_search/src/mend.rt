@@ -36,7 +36,6 @@ impl Search {
     fn mend(&mut self, arena: &Arena) -> bool {
         let many = (arena.states / 16).saturating_add(64);
         self.gone.clear();
-        self.todo.clear();
         for place in 0..self.lost.len() {
             self.drop_lost(place);
         }
@@ -45,6 +44,7 @@ impl Search {
                 break;
             };
             if self.gone.len() > many {
+                self.todo.clear();
                 return false;
             }
             self.carry(arena, vertex, Change::Loss);

@@ -1,7 +1,7 @@
 // Who wins each node at each state, as a ranking.
 
 use crate::arena::Arena;
-use crate::fields::{Fields, MARK};
+use crate::fields::MARK;
 use crate::part::Part;
 use crate::search::Search;
 use columns::column::{Column, Columns, Counted, Halves};
