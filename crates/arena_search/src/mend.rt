@@ -162,7 +162,13 @@ impl Search {
         for place in 0..self.gone.len() {
             let vertex = self.gone.get_or(place, self.vertex(0));
             if !self.is_done(vertex) {
-                self.note(1, vertex.node, word_of(vertex.state), bit(vertex.state), round);
+                self.note(
+                    1,
+                    vertex.node,
+                    word_of(vertex.state),
+                    bit(vertex.state),
+                    round,
+                );
                 self.todo.push(vertex);
             }
         }

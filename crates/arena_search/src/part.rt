@@ -45,8 +45,7 @@ impl Part {
 
     /// The priority of a block.
     pub(crate) fn priority(&self, block: usize) -> u32 {
-        self.least
-            .wrapping_add(u32::try_from(block).unwrap_or(0))
+        self.least.wrapping_add(u32::try_from(block).unwrap_or(0))
     }
 
     /// Whether Even gains what is won by a block: one of odd priority.

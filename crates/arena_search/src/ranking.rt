@@ -95,7 +95,10 @@ fn ranking_of(alloc: Global, arena: &Arena, search: Search) -> Option<GuessedRan
     let odds = search.layout.odd.shifts(alloc);
     let is_whole = nodes.is_whole() && evens.is_whole() && odds.is_whole() && search.is_whole();
     let Search {
-        odd, counts, words, ..
+        odd,
+        counts,
+        words,
+        ..
     } = search;
     let ranking = GuessedRanking {
         columns: Columns {

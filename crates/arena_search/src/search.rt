@@ -10,10 +10,8 @@ use lists::list::List;
 use std::alloc::Global;
 use std::collections::BinaryHeap;
 
-// How often all vertices may be looked at, and how many more.
-const TURNS: u64 = 64;
-
-const MORE: u64 = 16_000_000;
+// How many vertices may be looked at, which takes some seconds.
+const BUDGET: u64 = 100_000_000;
 
 /// A node at a state.
 #[derive(Clone, Copy)]
@@ -70,7 +68,6 @@ impl Search {
         for root in 0..nodes {
             blocks = Part::of(arena, root).blocks.max(blocks);
         }
-        let vertices = nodes.saturating_mul(states) as u64;
         Search {
             layout: Layout::of(arena),
             part: Part::of(arena, 0),
@@ -92,7 +89,7 @@ impl Search {
             gone: List::none(alloc),
             waiting: BinaryHeap::new(alloc),
             most: 0,
-            left: vertices.saturating_mul(TURNS).saturating_add(MORE),
+            left: BUDGET,
             is_whole: true,
         }
     }
@@ -101,12 +98,18 @@ impl Search {
     pub(crate) fn is_whole(&self) -> bool {
         let are_sets = self.gain.is_whole() && self.odd.is_whole();
         let are_fronts = self.delta.is_whole() && self.next.is_whole();
-        let are_tables =
-            self.counts.is_whole() && self.words.is_whole() && self.cursors.is_whole();
+        let are_tables = self.counts.is_whole() && self.words.is_whole() && self.cursors.is_whole();
         let are_lists = self.todo.is_whole() && self.later.is_whole() && self.lost.is_whole();
         let are_few = self.order.is_whole() && self.exits.is_whole() && self.rounds.is_whole();
         let are_counts = self.left > 0 && self.layout.holds(self.most);
-        are_sets && are_fronts && are_tables && are_lists && are_few && are_counts && self.gone.is_whole() && self.is_whole
+        are_sets
+            && are_fronts
+            && are_tables
+            && are_lists
+            && are_few
+            && are_counts
+            && self.gone.is_whole()
+            && self.is_whole
     }
 
     /// The row of a node in a block.
