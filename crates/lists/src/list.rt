@@ -109,4 +109,10 @@ impl<T: Copy + Drop> List<T> {
     pub fn clear(&mut self) {
         self.items.clear();
     }
+
+    /// All items, without the list around them.
+    pub fn into_items(self) -> Vec<T> {
+        let List { items, is_whole: _ } = self;
+        items
+    }
 }

@@ -2,16 +2,14 @@
 #![tactic(auto)]
 
 #[cfg(test)]
-mod common;
+mod arena_searches;
 #[cfg(test)]
-mod guessed_columns;
+mod common;
 #[cfg(test)]
 mod guessed_winners;
 #[cfg(test)]
-mod guesses;
-#[cfg(test)]
 mod known_games;
 #[cfg(test)]
-mod nested_guesses;
+mod questions;
 #[cfg(test)]
 mod rankings_by_hand;

@@ -9,10 +9,10 @@ ghost use Rattle.game.specs.Arena.{arena, place};
 ghost use Rattle.game.specs.Wins.{Wins};
 ghost use Rattle.requests.specs.Check.{AreMarks, ByGame};
 
+use arena_search::ranking::ranking;
 use calculus::closed::Closed;
 use certify::hands::hands;
 use forms::form::Normal;
-use guess::ranks::columns;
 use laws::{chosen_is_admissible, even_wins_where_meant};
 use lts::system::Lts;
 use measures::observer::{Observer, Stage};
@@ -24,20 +24,14 @@ use std::alloc::Global;
 use std::thread::Threads;
 use workers::team::BoardKind;
 
-// The ranking that so many threads guess, if there is one.
-fn guessed_sheet<H: Threads>(
-    rt: &H,
-    alloc: Global,
-    system: &Lts,
-    form: &Normal,
-    workers: u32,
-) -> Option<Sheet> {
-    let guessed = columns(rt, alloc, system, form, workers)?;
-    Sheet::of(guessed.columns, guessed.even_shifts, guessed.odd_shifts)
+// The ranking that is searched for, if there is one.
+fn found_sheet(alloc: Global, system: &Lts, form: &Normal) -> Option<Sheet> {
+    let found = ranking(alloc, system, form)?;
+    Sheet::of(found.columns, found.even_shifts, found.odd_shifts)
 }
 
-// A mark for each state, true where Even wins its vertex with the root node, where the ranking that is guessed is good. So many threads guess and test it.
-fn guessed_winners<H: Threads + Sync>(
+// A mark for each state, true where Even wins its vertex with the root node, where the ranking that is found is good. So many threads test it.
+fn ranked_winners<H: Threads + Sync>(
     rt: &H,
     alloc: Global,
     system: &Lts,
@@ -48,7 +42,7 @@ fn guessed_winners<H: Threads + Sync>(
     ensures wins { IfSome result (λ marks. MarksOf system.now.system.states marks.items
         (λ s. Wins (arena system.now.system (normal_nodes form.now)) (place (length (normal_nodes form.now)) s 0))) }
 {
-    match guessed_sheet(rt, alloc, system, form, workers) {
+    match found_sheet(alloc, system, form) {
         Some(sheet) => root_winners(rt, alloc, system, form, &sheet, workers),
         None => None,
     }
@@ -60,7 +54,7 @@ fn is_packed(board: BoardKind) -> bool
     board == BoardKind::Packed
 }
 
-/// A mark for each state, true where it satisfies the formula: by a ranking of the game of both that is guessed and found good. There is none where it
+/// A mark for each state, true where it satisfies the formula: by a ranking of the game of both that is searched for and found good. There is none where it
 /// isn't good, where a limit is passed, or for want of memory; nor where the packed board is asked for, since what that can hold is known of a game
 /// that is stored. As many threads work as there are workers, and no more than there are processors. An observer is told that winners are searched for.
 pub(crate) fn ranked_marks<O: Observer, H: Threads + Sync>(
@@ -85,7 +79,7 @@ pub(crate) fn ranked_marks<O: Observer, H: Threads + Sync>(
             let vertices = 2 + states * form.count();
             observer.sees(Stage::Searching { vertices });
             let hands = hands(rt, options.workers as usize);
-            guessed_winners(rt, alloc, system, &form, u32::try_from(hands).unwrap_or(1))
+            ranked_winners(rt, alloc, system, &form, u32::try_from(hands).unwrap_or(1))
         }
         Err(_) => None,
     }

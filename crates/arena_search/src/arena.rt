@@ -1,0 +1,251 @@
+// The nodes of a normal form at the states of a system.
+
+use crate::edges::{Edges, Kinds};
+use forms::form::Normal;
+use forms::node::Kind;
+use lists::list::List;
+use std::alloc::Global;
+use systems::system::Lts;
+
+/// No node.
+pub(crate) const NONE: usize = usize::MAX;
+
+/// What a node is, without its children.
+#[derive(Clone, Copy, PartialEq, Eq)]
+pub(crate) enum Shape {
+    True,
+    False,
+    And,
+    Or,
+    Dia,
+    Box,
+    Binder,
+    Variable,
+}
+
+/// A node with its children. One that has a single child has it twice, and a variable has its binder.
+#[derive(Clone, Copy)]
+pub(crate) struct Node {
+    pub(crate) shape: Shape,
+    pub(crate) priority: u32,
+    pub(crate) left: usize,
+    pub(crate) right: usize,
+    /// The kinds of its labels.
+    pub(crate) mask: u64,
+    /// The first node of its component.
+    pub(crate) root: usize,
+    /// How far it is from the binders, and from the nodes outside, below it in its component.
+    pub(crate) height: u32,
+}
+
+// No node that is of use.
+const NOTHING: Node = Node {
+    shape: Shape::True,
+    priority: 0,
+    left: NONE,
+    right: NONE,
+    mask: 0,
+    root: NONE,
+    height: 0,
+};
+
+impl Node {
+    fn of(kind: &Kind) -> Self {
+        let (shape, left, right) = match kind {
+            Kind::True => (Shape::True, NONE, NONE),
+            Kind::False => (Shape::False, NONE, NONE),
+            Kind::And(left, right) => (Shape::And, *left as usize, *right as usize),
+            Kind::Or(left, right) => (Shape::Or, *left as usize, *right as usize),
+            Kind::Dia(_, child) => (Shape::Dia, *child as usize, *child as usize),
+            Kind::Box(_, child) => (Shape::Box, *child as usize, *child as usize),
+            Kind::Mu(child) | Kind::Nu(child) => {
+                (Shape::Binder, *child as usize, *child as usize)
+            }
+            Kind::Var(binder) => (Shape::Variable, *binder as usize, *binder as usize),
+        };
+        Node {
+            shape,
+            left,
+            right,
+            ..NOTHING
+        }
+    }
+
+    pub(crate) fn is_modal(&self) -> bool {
+        self.shape == Shape::Dia || self.shape == Shape::Box
+    }
+
+    pub(crate) fn is_binder(&self) -> bool {
+        self.shape == Shape::Binder
+    }
+}
+
+/// The nodes by number, with the edges of the system.
+#[derive(Drop)]
+pub(crate) struct Arena {
+    pub(crate) states: usize,
+    pub(crate) forth: Edges,
+    pub(crate) back: Edges,
+    nodes: List<Node>,
+    // For each node where the list of those that have it for a child starts.
+    starts: List<usize>,
+    parents: List<usize>,
+    are_kinds_known: bool,
+}
+
+impl Arena {
+    pub(crate) fn of(alloc: Global, lts: &Lts, form: &Normal) -> Self {
+        let kinds = Kinds::of(alloc, lts, form);
+        let forth = Edges::forth(alloc, lts, &kinds);
+        let mut arena = Arena {
+            states: lts.states() as usize,
+            back: forth.reversed(alloc),
+            forth,
+            nodes: List::none(alloc),
+            starts: List::filled(alloc, 1, 0),
+            parents: List::none(alloc),
+            are_kinds_known: kinds.are_known(),
+        };
+        arena.enter_nodes(form, &kinds);
+        arena.find_roots(alloc);
+        for number in (0..arena.count()).rev() {
+            arena.find_height(number);
+            arena.replace_variables(number);
+        }
+        for number in 0..arena.count() {
+            arena.enter_parents(number);
+        }
+        arena
+    }
+
+    /// Whether labels are of few kinds, and there was memory for all.
+    pub(crate) fn is_whole(&self) -> bool {
+        self.forth.is_whole()
+            && self.back.is_whole()
+            && self.nodes.is_whole()
+            && self.starts.is_whole()
+            && self.parents.is_whole()
+            && self.are_kinds_known
+    }
+
+    /// How many nodes there are.
+    pub(crate) fn count(&self) -> usize {
+        self.nodes.len()
+    }
+
+    #[inline(always)]
+    pub(crate) fn node(&self, number: usize) -> Node {
+        self.nodes.get_or(number, NOTHING)
+    }
+
+    /// The node itself, or the binder of a variable.
+    pub(crate) fn real(&self, number: usize) -> usize {
+        let node = self.node(number);
+        if node.shape == Shape::Variable {
+            node.left
+        } else {
+            number
+        }
+    }
+
+    /// The nodes that have this one for a child, itself or by its variables.
+    #[inline(always)]
+    pub(crate) fn parents(&self, number: usize) -> &[usize] {
+        let start = self.starts.get_or(number, 0);
+        let end = self.starts.get_or(number.wrapping_add(1), 0);
+        self.parents.slice(start, end)
+    }
+
+    fn enter_nodes(&mut self, form: &Normal, kinds: &Kinds) {
+        for node in form.nodes() {
+            let own = Node {
+                priority: node.priority,
+                mask: kinds.mask(self.nodes.len()),
+                ..Node::of(&node.kind)
+            };
+            self.nodes.push(own);
+        }
+    }
+
+    // A node is in its parent's component where a variable inside it is bound above it.
+    fn find_roots(&mut self, alloc: Global) {
+        let mut reached = List::filled(alloc, self.count(), NONE);
+        for number in (0..self.count()).rev() {
+            let node = self.node(number);
+            let inside = reached.get_or(node.left, NONE);
+            let least = match node.shape {
+                Shape::Variable => node.left,
+                _ => inside.min(reached.get_or(node.right, NONE)),
+            };
+            reached.set(number, least);
+        }
+        for number in 0..self.count() {
+            self.find_root(&reached, number);
+        }
+    }
+
+    // Gives a node, and then its children, their components.
+    fn find_root(&mut self, reached: &List<usize>, number: usize) {
+        let mut node = self.node(number);
+        if node.root == NONE {
+            node.root = number;
+            self.nodes.set(number, node);
+        }
+        if node.shape == Shape::Variable {
+            return;
+        }
+        for child in [node.left, node.right] {
+            if reached.get_or(child, NONE) < child {
+                let root = node.root;
+                let below = self.node(child);
+                self.nodes.set(child, Node { root, ..below });
+            }
+        }
+    }
+
+    fn find_height(&mut self, number: usize) {
+        let node = self.node(number);
+        let height = match node.shape {
+            Shape::Binder | Shape::True | Shape::False => 0,
+            Shape::Variable => 1,
+            _ => self
+                .height_over(node, node.left)
+                .max(self.height_over(node, node.right)),
+        };
+        self.nodes.set(number, Node { height, ..node });
+    }
+
+    fn height_over(&self, node: Node, child: usize) -> u32 {
+        let below = self.node(child);
+        if below.root == node.root {
+            below.height.saturating_add(1)
+        } else {
+            1
+        }
+    }
+
+    // Puts binders in the place of variables among a node's children.
+    fn replace_variables(&mut self, number: usize) {
+        let node = self.node(number);
+        let left = self.real(node.left);
+        let right = self.real(node.right);
+        self.nodes.set(
+            number,
+            Node {
+                left,
+                right,
+                ..node
+            },
+        );
+    }
+
+    fn enter_parents(&mut self, number: usize) {
+        for parent in 0..self.count() {
+            let node = self.node(parent);
+            if node.shape != Shape::Variable && (node.left == number || node.right == number) {
+                self.parents.push(parent);
+            }
+        }
+        self.starts.push(self.parents.len());
+    }
+}

@@ -1,0 +1,382 @@
+// The innermost block, by levels: a binder comes one level after its child, any other node with the children by which it is gained.
+
+use crate::arena::{Arena, Node, Shape};
+use crate::edges::{state_of, takes};
+use crate::search::{Search, Vertex};
+use crate::sets::{bit, count, states_of, word_of};
+use std::mem;
+
+// Levels of fewer vertices are found vertex by vertex.
+const FEW: usize = 100;
+
+// From fewer states none are looked for by the edges that lead to them.
+const MANY: usize = 2_000;
+
+/// What becomes of the vertices that lead to another one.
+#[derive(Clone, Copy)]
+pub(crate) enum Change {
+    /// The player of the innermost block gains them.
+    Gain,
+    /// That player loses them.
+    Loss,
+    /// That player gains them again.
+    Return,
+}
+
+impl Search {
+    /// Finds what the player of the innermost block gains, with the levels.
+    pub(crate) fn climb(&mut self, arena: &Arena) {
+        self.open(arena);
+        let mut level = 0_u32;
+        for _ in 0..u64::MAX {
+            self.gather_all(arena, level == 0);
+            let found = self.settle_all(arena, level);
+            self.pay(found.saturating_add(1));
+            if found < FEW {
+                level = self.walk(arena, level);
+            }
+            if self.left == 0 || !self.begin_level() {
+                break;
+            }
+            level = level.saturating_add(1);
+        }
+        self.most = self.most.max(level);
+    }
+
+    // Level zero begins with what is held, given, or comes from outside.
+    fn open(&mut self, arena: &Arena) {
+        let nodes = self.order.len();
+        self.pay(nodes.saturating_mul(arena.states) / 16);
+        for place in 0..self.order.len() {
+            let number = self.order.get_or(place, 0);
+            let node = arena.node(number);
+            self.open_node(node, number);
+        }
+        for place in 0..self.exits.len() {
+            let number = self.exits.get_or(place, 0);
+            for word in 0..self.gain.width() {
+                let bits = self.exit(0, number, word);
+                self.gain.set_word(number, word, bits);
+                self.delta.add(number, word, bits);
+            }
+        }
+    }
+
+    fn open_node(&mut self, node: Node, number: usize) {
+        let own = self.part.block(node);
+        let is_all = match node.shape {
+            Shape::True => self.part.is_evens(0),
+            Shape::False => !self.part.is_evens(0),
+            _ => false,
+        };
+        for word in 0..self.gain.width() {
+            let bits = if is_all {
+                self.gain.all(word)
+            } else if own == 0 {
+                self.given(0, number, word)
+            } else {
+                self.held(0, own, number, word)
+            };
+            self.gain.set_word(number, word, bits);
+            self.delta.add(number, word, bits);
+        }
+        self.cursors.fill(number, 0);
+    }
+
+    // What all nodes gain by the new states of their children.
+    fn gather_all(&mut self, arena: &Arena, is_first: bool) {
+        for place in 0..self.order.len() {
+            let number = self.order.get_or(place, 0);
+            let node = arena.node(number);
+            if self.part.block(node) > 0 || node.left >= self.nodes {
+                continue;
+            }
+            if node.is_modal() {
+                self.gather_steps(arena, number, node, is_first);
+            } else {
+                self.gather(number, node, node.left, node.right);
+                self.gather(number, node, node.right, node.left);
+            }
+        }
+    }
+
+    // What a node gains by the new states of a child, where it has another one.
+    fn gather(&mut self, number: usize, node: Node, child: usize, other: usize) {
+        let wants_one = self.part.wants_one(node);
+        for place in 0..self.delta.count(child) {
+            let word = self.delta.touched(child, place);
+            let mut bits = self.delta.word(child, word) & !self.gain.word(number, word);
+            if !wants_one {
+                bits &= self.gain.word(other, word);
+            }
+            self.find(number, node, word, bits);
+        }
+    }
+
+    // A node is gained at these states: in this level, or, as a binder, in the next one.
+    #[inline(always)]
+    fn find(&mut self, number: usize, node: Node, word: usize, bits: u64) {
+        if node.is_binder() {
+            self.next.add(number, word, bits);
+        } else {
+            self.gain.add(number, word, bits);
+            self.delta.add(number, word, bits);
+        }
+    }
+
+    // The same of a modality. In the first level one that waits for all successors is gained where there are none.
+    fn gather_steps(&mut self, arena: &Arena, number: usize, node: Node, is_first: bool) {
+        let few = self.delta.size(node.left);
+        let rest = arena.states.saturating_sub(self.gain.size(number));
+        let is_dense = few > MANY && few.saturating_mul(4) > rest;
+        if is_dense || is_first && !self.part.wants_one(node) {
+            self.pull(arena, number, node);
+        } else {
+            self.push(arena, number, node);
+        }
+    }
+
+    // From the states that aren't gained yet on to their successors.
+    fn pull(&mut self, arena: &Arena, number: usize, node: Node) {
+        for word in 0..self.gain.width() {
+            let rest = self.gain.all(word) & !self.gain.word(number, word);
+            let bits = self.pulled(arena, number, node, word, rest);
+            self.find(number, node, word, bits);
+        }
+    }
+
+    fn pulled(&mut self, arena: &Arena, number: usize, node: Node, word: usize, rest: u64) -> u64 {
+        let wants_one = self.part.wants_one(node);
+        let mut bits = 0;
+        for state in states_of(word, rest) {
+            let is_gained = if wants_one {
+                self.has_one(arena, node, state)
+            } else {
+                self.has_all(arena, number, node, state)
+            };
+            if is_gained {
+                bits |= bit(state);
+            }
+        }
+        bits
+    }
+
+    // Whether a successor is new.
+    #[inline(always)]
+    fn has_one(&self, arena: &Arena, node: Node, state: usize) -> bool {
+        for edge in arena.forth.row(state, 0) {
+            if takes(node.mask, *edge) && self.delta.has(node.left, state_of(*edge)) {
+                return true;
+            }
+        }
+        false
+    }
+
+    // Whether all successors are gained. If not, the first one that isn't is noted.
+    #[inline(always)]
+    fn has_all(&mut self, arena: &Arena, number: usize, node: Node, state: usize) -> bool {
+        let first = self.cursors.get_or(number, state, 0);
+        let mut passed = first;
+        for edge in arena.forth.row(state, first) {
+            if takes(node.mask, *edge) && !self.gain.has(node.left, state_of(*edge)) {
+                self.cursors.set(number, state, passed);
+                return false;
+            }
+            passed = passed.wrapping_add(1);
+        }
+        true
+    }
+
+    // From new states back to their predecessors.
+    fn push(&mut self, arena: &Arena, number: usize, node: Node) {
+        for place in 0..self.delta.count(node.left) {
+            let word = self.delta.touched(node.left, place);
+            let bits = self.delta.word(node.left, word);
+            for state in states_of(word, bits) {
+                self.carry_back(arena, number, node, state, Change::Gain);
+            }
+        }
+    }
+
+    // Gives what is new its level, and has nothing new any more. The answer is how much there was.
+    fn settle_all(&mut self, arena: &Arena, level: u32) -> usize {
+        let mut found = 0_usize;
+        for place in 0..self.order.len() {
+            let number = self.order.get_or(place, 0);
+            if self.part.block(arena.node(number)) == 0 {
+                found = found.wrapping_add(self.settle_node(number, level));
+            }
+            self.delta.clear(number);
+        }
+        for place in 0..self.exits.len() {
+            self.delta.clear(self.exits.get_or(place, 0));
+        }
+        found
+    }
+
+    fn settle_node(&mut self, number: usize, level: u32) -> usize {
+        let mut found = 0_usize;
+        for place in 0..self.delta.count(number) {
+            let word = self.delta.touched(number, place);
+            let bits = self.delta.word(number, word);
+            self.counts.put(number, word, bits, level);
+            found = found.wrapping_add(count(bits));
+        }
+        found
+    }
+
+    // The binders that are gained in the next level are new. The answer is whether there are some.
+    fn begin_level(&mut self) -> bool {
+        let mut is_new = false;
+        for place in 0..self.order.len() {
+            let number = self.order.get_or(place, 0);
+            if self.next.count(number) > 0 {
+                is_new = true;
+                self.begin_node_level(number);
+            }
+        }
+        is_new
+    }
+
+    fn begin_node_level(&mut self, number: usize) {
+        for place in 0..self.next.count(number) {
+            let word = self.next.touched(number, place);
+            let bits = self.next.word(number, word);
+            self.gain.add(number, word, bits);
+            self.delta.add(number, word, bits);
+        }
+        self.next.clear(number);
+    }
+
+    // Levels of few vertices, as long as they follow each other. The answer is the last of them.
+    fn walk(&mut self, arena: &Arena, mut level: u32) -> u32 {
+        self.is_walking = true;
+        for place in 0..self.order.len() {
+            let number = self.order.get_or(place, 0);
+            self.list_next(number);
+        }
+        for _ in 0..u64::MAX {
+            let count = self.later.len();
+            if count == 0 || count > 2 * FEW || self.left == 0 {
+                break;
+            }
+            level = level.saturating_add(1);
+            mem::swap(&mut self.todo, &mut self.later);
+            self.walk_level(arena, level);
+        }
+        self.is_walking = false;
+        for _ in 0..u64::MAX {
+            let Some(vertex) = self.later.pop() else {
+                break;
+            };
+            self.next.put(vertex.node, vertex.state);
+        }
+        level
+    }
+
+    fn list_next(&mut self, number: usize) {
+        for place in 0..self.next.count(number) {
+            let word = self.next.touched(number, place);
+            for state in states_of(word, self.next.word(number, word)) {
+                self.later.push(Vertex {
+                    node: number,
+                    state,
+                });
+            }
+        }
+        self.next.clear(number);
+    }
+
+    fn walk_level(&mut self, arena: &Arena, level: u32) {
+        for _ in 0..u64::MAX {
+            let Some(vertex) = self.todo.pop() else {
+                break;
+            };
+            if !self.is_done(vertex) {
+                self.left = self.left.saturating_sub(1);
+                self.settle(vertex, level);
+                self.carry(arena, vertex, Change::Gain);
+            }
+        }
+    }
+
+    /// Carries a change of a vertex on to those of the innermost block that lead to it.
+    #[inline(always)]
+    pub(crate) fn carry(&mut self, arena: &Arena, vertex: Vertex, change: Change) {
+        for parent in arena.parents(vertex.node) {
+            let node = arena.node(*parent);
+            if self.part.has(node) && self.part.block(node) == 0 {
+                if node.is_modal() {
+                    self.carry_back(arena, *parent, node, vertex.state, change);
+                } else {
+                    self.meet(arena, *parent, node, vertex.state, change);
+                }
+            }
+        }
+    }
+
+    #[inline(always)]
+    fn carry_back(
+        &mut self,
+        arena: &Arena,
+        number: usize,
+        node: Node,
+        state: usize,
+        change: Change,
+    ) {
+        for edge in arena.back.row(state, 0) {
+            if takes(node.mask, *edge) {
+                self.meet(arena, number, node, state_of(*edge), change);
+            }
+        }
+    }
+
+    #[inline(always)]
+    fn meet(&mut self, arena: &Arena, number: usize, node: Node, state: usize, change: Change) {
+        let is_done = self.gain.has(number, state);
+        match change {
+            Change::Gain => {
+                if !is_done && self.is_ready(arena, number, node, state) {
+                    self.reach(number, node, state);
+                }
+            }
+            Change::Loss => {
+                if is_done {
+                    self.lose(arena, number, node, state);
+                }
+            }
+            Change::Return => {
+                if !is_done {
+                    self.wait(arena, number, node, state);
+                }
+            }
+        }
+    }
+
+    // Whether a node that has a new child or successor is gained by it.
+    #[inline(always)]
+    fn is_ready(&mut self, arena: &Arena, number: usize, node: Node, state: usize) -> bool {
+        if self.part.wants_one(node) {
+            true
+        } else if node.is_modal() {
+            self.has_all(arena, number, node, state)
+        } else {
+            self.gain.has(node.left, state) && self.gain.has(node.right, state)
+        }
+    }
+
+    #[inline(always)]
+    fn reach(&mut self, number: usize, node: Node, state: usize) {
+        let vertex = Vertex {
+            node: number,
+            state,
+        };
+        if !self.is_walking {
+            self.find(number, node, word_of(state), bit(state));
+        } else if node.is_binder() {
+            self.later.push(vertex);
+        } else {
+            self.todo.push(vertex);
+        }
+    }
+}

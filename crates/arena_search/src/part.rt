@@ -1,0 +1,76 @@
+// Components of nodes.
+
+use crate::arena::{Arena, Node, Shape};
+
+/// A component of nodes, with its blocks: each priority from the least of its binders up to the greatest, and the binders that have it. Blocks are
+/// numbered from the innermost one on.
+#[derive(Clone, Copy)]
+pub(crate) struct Part {
+    /// Its first node.
+    pub(crate) root: usize,
+    /// The priority of the innermost block.
+    pub(crate) least: u32,
+    /// How many blocks there are.
+    pub(crate) blocks: usize,
+    /// Whether nodes lead back to themselves.
+    pub(crate) is_cyclic: bool,
+}
+
+impl Part {
+    /// The component that begins with this node.
+    pub(crate) fn of(arena: &Arena, root: usize) -> Self {
+        let (mut least, mut greatest, mut size) = (u32::MAX, 0, 0_usize);
+        for number in root..arena.count() {
+            let node = arena.node(number);
+            if node.root == root {
+                size = size.wrapping_add(1);
+                if node.is_binder() {
+                    least = least.min(node.priority);
+                    greatest = greatest.max(node.priority);
+                }
+            }
+        }
+        Part {
+            root,
+            least,
+            blocks: (greatest.saturating_sub(least) as usize).wrapping_add(1),
+            is_cyclic: size > 1,
+        }
+    }
+
+    #[inline(always)]
+    pub(crate) fn has(&self, node: Node) -> bool {
+        node.root == self.root
+    }
+
+    /// The priority of a block.
+    pub(crate) fn priority(&self, block: usize) -> u32 {
+        self.least.wrapping_add(u32::try_from(block).unwrap_or(0))
+    }
+
+    /// Whether Even gains what is won by a block: one of odd priority.
+    #[inline(always)]
+    pub(crate) fn is_evens(&self, block: usize) -> bool {
+        self.least as usize % 2 != block % 2
+    }
+
+    /// The block of a binder. Any other node is in the innermost one.
+    #[inline(always)]
+    pub(crate) fn block(&self, node: Node) -> usize {
+        if node.is_binder() {
+            node.priority.saturating_sub(self.least) as usize
+        } else {
+            0
+        }
+    }
+
+    /// Whether the player of the innermost block gains a node by one child or successor, and not only by all.
+    #[inline(always)]
+    pub(crate) fn wants_one(&self, node: Node) -> bool {
+        match node.shape {
+            Shape::Or | Shape::Dia => self.is_evens(0),
+            Shape::And | Shape::Box => !self.is_evens(0),
+            _ => true,
+        }
+    }
+}

@@ -1,0 +1,397 @@
+// What is found of a component: the innermost block by levels, the others by rounds.
+
+use crate::arena::{Arena, Node, Shape};
+use crate::fields::Layout;
+use crate::mend::Later;
+use crate::part::Part;
+use crate::sets::{Fronts, Sets, bit, states_of, word_of};
+use crate::table::Table;
+use lists::list::List;
+use std::alloc::Global;
+use std::collections::BinaryHeap;
+
+// How many vertices may be looked at, which takes some seconds.
+const BUDGET: u64 = 100_000_000;
+
+/// A node at a state.
+#[derive(Clone, Copy)]
+pub(crate) struct Vertex {
+    pub(crate) node: usize,
+    pub(crate) state: usize,
+}
+
+/// The search, with the component at hand.
+#[derive(Drop)]
+pub(crate) struct Search {
+    pub(crate) layout: Layout,
+    pub(crate) part: Part,
+    pub(crate) nodes: usize,
+    /// The nodes of the component but variables, each after those below it.
+    pub(crate) order: List<usize>,
+    /// The nodes outside to which they lead.
+    pub(crate) exits: List<usize>,
+    /// For each block the round at hand.
+    pub(crate) rounds: List<u32>,
+    /// For each block and node the states that the player of the block has gained.
+    pub(crate) gain: Sets,
+    /// What was gained in the level at hand, and what is gained in the next one.
+    pub(crate) delta: Fronts,
+    pub(crate) next: Fronts,
+    /// For each node the states that Odd wins.
+    pub(crate) odd: Sets,
+    /// For the two innermost blocks and each node the levels and the rounds.
+    pub(crate) counts: Table<u32>,
+    /// For the blocks further out and each node the rounds, with what the player's blocks inside them count.
+    pub(crate) words: Table<u64>,
+    /// For each modality that waits for all successors how many of the first ones need no more look.
+    pub(crate) cursors: Table<u32>,
+    /// Whether vertices are looked at one by one.
+    pub(crate) is_walking: bool,
+    /// Those of the level at hand, and of the next one.
+    pub(crate) todo: List<Vertex>,
+    pub(crate) later: List<Vertex>,
+    /// Binders that the player of the innermost block has lost, and what that player has lost by them.
+    pub(crate) lost: List<Vertex>,
+    pub(crate) gone: List<Vertex>,
+    pub(crate) waiting: BinaryHeap<Later>,
+    /// The greatest count.
+    pub(crate) most: u32,
+    /// How many more vertices may be looked at.
+    pub(crate) left: u64,
+    pub(crate) is_whole: bool,
+}
+
+impl Search {
+    pub(crate) fn new(alloc: Global, arena: &Arena) -> Self {
+        let (nodes, states) = (arena.count(), arena.states);
+        let mut blocks = 2;
+        for root in 0..nodes {
+            blocks = Part::of(arena, root).blocks.max(blocks);
+        }
+        Search {
+            layout: Layout::of(arena),
+            part: Part::of(arena, 0),
+            nodes,
+            order: List::none(alloc),
+            exits: List::none(alloc),
+            rounds: List::filled(alloc, blocks, 0),
+            gain: Sets::new(alloc, blocks.saturating_mul(nodes), states),
+            delta: Fronts::new(alloc, nodes, states),
+            next: Fronts::new(alloc, nodes, states),
+            odd: Sets::new(alloc, nodes, states),
+            counts: Table::new(alloc, nodes.saturating_mul(2)),
+            words: Table::new(alloc, blocks.saturating_sub(2).saturating_mul(nodes)),
+            cursors: Table::new(alloc, nodes),
+            is_walking: false,
+            todo: List::none(alloc),
+            later: List::none(alloc),
+            lost: List::none(alloc),
+            gone: List::none(alloc),
+            waiting: BinaryHeap::new(alloc),
+            most: 0,
+            left: BUDGET,
+            is_whole: true,
+        }
+    }
+
+    /// Whether there was memory for all, and all was found.
+    pub(crate) fn is_whole(&self) -> bool {
+        let are_sets = self.gain.is_whole() && self.odd.is_whole();
+        let are_fronts = self.delta.is_whole() && self.next.is_whole();
+        let are_tables = self.counts.is_whole() && self.words.is_whole() && self.cursors.is_whole();
+        let are_lists = self.todo.is_whole() && self.later.is_whole() && self.lost.is_whole();
+        let are_few = self.order.is_whole() && self.exits.is_whole() && self.rounds.is_whole();
+        let are_counts = self.left > 0 && self.layout.holds(self.most);
+        are_sets
+            && are_fronts
+            && are_tables
+            && are_lists
+            && are_few
+            && are_counts
+            && self.gone.is_whole()
+            && self.is_whole
+    }
+
+    /// The row of a node in a block.
+    #[inline(always)]
+    pub(crate) fn row(&self, block: usize, node: usize) -> usize {
+        block.wrapping_mul(self.nodes).wrapping_add(node)
+    }
+
+    // The list of words of a node in a block that has one.
+    pub(crate) fn list(&self, block: usize, node: usize) -> usize {
+        self.row(block.wrapping_sub(2), node)
+    }
+
+    /// So many vertices were looked at.
+    pub(crate) fn pay(&mut self, vertices: usize) {
+        self.left = self.left.saturating_sub(vertices as u64);
+    }
+
+    /// Finds who wins the nodes of the component with this root, where it is known of those below it.
+    pub(crate) fn solve(&mut self, alloc: Global, arena: &Arena, root: usize) {
+        self.part = Part::of(arena, root);
+        self.order.clear();
+        self.exits.clear();
+        for number in (root..self.nodes).rev() {
+            self.enter(alloc, arena, number);
+        }
+        self.play(arena);
+        for place in 0..self.order.len() {
+            let number = self.order.get_or(place, 0);
+            self.conclude(number);
+        }
+    }
+
+    // Enters a node of the component, with lists for what is counted, and its children that are outside.
+    fn enter(&mut self, alloc: Global, arena: &Arena, number: usize) {
+        let node = arena.node(number);
+        if !self.part.has(node) || node.shape == Shape::Variable {
+            return;
+        }
+        self.order.push(number);
+        for child in [node.left, node.right] {
+            if child < self.nodes && !self.part.has(arena.node(child)) {
+                self.exits.push(child);
+            }
+        }
+        if node.is_modal() && !self.part.wants_one(node) {
+            self.cursors.open(alloc, number, arena.states, 0);
+        }
+        if self.part.is_cyclic {
+            for block in self.part.block(node)..self.part.blocks {
+                self.open_list(alloc, arena.states, block, number);
+            }
+        }
+    }
+
+    fn open_list(&mut self, alloc: Global, states: usize, block: usize, number: usize) {
+        if block < 2 {
+            let row = self.row(block, number);
+            self.counts.open(alloc, row, states, 0);
+        } else {
+            let list = self.list(block, number);
+            self.words.open(alloc, list, states, 0);
+        }
+    }
+
+    // Has rounds follow each other until no block goes on.
+    fn play(&mut self, arena: &Arena) {
+        self.begin(arena, self.part.blocks);
+        for _ in 0..u64::MAX {
+            self.climb(arena);
+            let block = self.close_rounds(arena);
+            if block >= self.part.blocks || self.left == 0 {
+                break;
+            }
+            self.begin(arena, block);
+        }
+    }
+
+    // Begins the blocks inside this one.
+    fn begin(&mut self, arena: &Arena, end: usize) {
+        for block in (1..end).rev() {
+            self.rounds.set(block, 0);
+            for place in 0..self.order.len() {
+                let number = self.order.get_or(place, 0);
+                if self.part.block(arena.node(number)) <= block {
+                    self.begin_node(block, number);
+                }
+            }
+        }
+    }
+
+    fn begin_node(&mut self, block: usize, number: usize) {
+        for word in 0..self.gain.width() {
+            let bits = self.given(block, number, word);
+            let row = self.row(block, number);
+            self.gain.set_word(row, word, bits);
+        }
+    }
+
+    /// What a block's player has of a node before the block begins: what the next block of that player has gained.
+    pub(crate) fn given(&self, block: usize, number: usize, word: usize) -> u64 {
+        if block.wrapping_add(2) < self.part.blocks {
+            self.gain
+                .word(self.row(block.wrapping_add(2), number), word)
+        } else {
+            0
+        }
+    }
+
+    /// What the player of a block has of a node outside.
+    pub(crate) fn exit(&self, block: usize, number: usize, word: usize) -> u64 {
+        let odd = self.odd.word(number, word);
+        if self.part.is_evens(block) {
+            self.gain.all(word) & !odd
+        } else {
+            odd
+        }
+    }
+
+    /// What the player of a block has of a binder of a block further out.
+    pub(crate) fn held(&self, block: usize, own: usize, number: usize, word: usize) -> u64 {
+        let gained = self.gain.word(self.row(own, number), word);
+        if own % 2 == block % 2 {
+            gained
+        } else {
+            self.gain.all(word) & !gained
+        }
+    }
+
+    // What the player of a block has of a node once the blocks inside it have ended.
+    fn status(&self, node: Node, block: usize, number: usize, word: usize) -> u64 {
+        if !self.part.has(node) {
+            return self.exit(block, number, word);
+        }
+        let own = self.part.block(node);
+        if own < block {
+            self.held(block, block.wrapping_sub(1), number, word)
+        } else {
+            self.held(block, own, number, word)
+        }
+    }
+
+    // Ends the round of each block that is inside all others that go on. The answer is the first one that does, or how many blocks there are.
+    fn close_rounds(&mut self, arena: &Arena) -> usize {
+        for block in 1..self.part.blocks {
+            if self.close_round(arena, block) {
+                return block;
+            }
+        }
+        self.part.blocks
+    }
+
+    // What the player of the blocks inside hasn't gained is gained by that of the block. The answer is whether another round has to follow.
+    fn close_round(&mut self, arena: &Arena, block: usize) -> bool {
+        let round = self.rounds.get_or(block, 0);
+        self.pay(arena.states / 16);
+        for place in 0..self.order.len() {
+            let number = self.order.get_or(place, 0);
+            let node = arena.node(number);
+            let own = self.part.block(node);
+            if own < block {
+                self.gain_rest(block, number, round);
+            } else if own == block {
+                self.find_fresh(arena, block, number, node.left);
+            }
+        }
+        let round = round.saturating_add(1);
+        self.lost.clear();
+        for place in 0..self.order.len() {
+            let number = self.order.get_or(place, 0);
+            self.gain_fresh(block, number, round);
+        }
+        if self.lost.is_empty() {
+            return false;
+        }
+        self.rounds.set(block, round);
+        block > 1 || self.mend_rounds(arena)
+    }
+
+    // A block's player gains the states of a node that the other one hasn't gained inside.
+    fn gain_rest(&mut self, block: usize, number: usize, round: u32) {
+        for word in 0..self.gain.width() {
+            let rest = self.held(block, block.wrapping_sub(1), number, word);
+            let fresh = rest & !self.gain.word(self.row(block, number), word);
+            self.note(block, number, word, fresh, round);
+        }
+    }
+
+    // Finds the states of a binder that its block's player gains by the binder's child.
+    fn find_fresh(&mut self, arena: &Arena, block: usize, number: usize, child: usize) {
+        let node = arena.node(child);
+        for word in 0..self.gain.width() {
+            let status = self.status(node, block, child, word);
+            let fresh = status & !self.gain.word(self.row(block, number), word);
+            self.next.add(number, word, fresh);
+        }
+    }
+
+    // A block's player gains these states, which that of the innermost block may lose.
+    fn gain_fresh(&mut self, block: usize, number: usize, round: u32) {
+        for place in 0..self.next.count(number) {
+            let word = self.next.touched(number, place);
+            let bits = self.next.word(number, word);
+            self.note(block, number, word, bits, round);
+            for state in states_of(word, bits) {
+                self.lost.push(Vertex {
+                    node: number,
+                    state,
+                });
+            }
+        }
+        self.next.clear(number);
+    }
+
+    /// A block's player gains these states of a node in a round.
+    pub(crate) fn note(&mut self, block: usize, number: usize, word: usize, bits: u64, round: u32) {
+        if bits == 0 {
+            return;
+        }
+        self.most = self.most.max(round);
+        let row = self.row(block, number);
+        self.gain.add(row, word, bits);
+        if block < 2 {
+            self.counts.put(row, word, bits, round);
+            return;
+        }
+        let unit = self.layout.unit(self.part.priority(block));
+        let own = unit.wrapping_mul(u64::from(round));
+        for state in states_of(word, bits) {
+            let inner = self.counted(block.wrapping_sub(2), number, state);
+            let list = self.list(block, number);
+            self.words.set(list, state, own.wrapping_add(inner));
+        }
+    }
+
+    /// What the player of a block counts there and inside it.
+    pub(crate) fn counted(&self, block: usize, number: usize, state: usize) -> u64 {
+        if block < 2 {
+            let count = self.counts.get_or(self.row(block, number), state, 0);
+            let unit = self.layout.unit(self.part.priority(block));
+            unit.wrapping_mul(u64::from(count))
+        } else {
+            self.words.get_or(self.list(block, number), state, 0)
+        }
+    }
+
+    // Keeps who wins a node, and of three blocks or more one list of words for both players.
+    fn conclude(&mut self, number: usize) {
+        let last = self.part.blocks.wrapping_sub(1);
+        for word in 0..self.gain.width() {
+            let gained = self.gain.word(self.row(last, number), word);
+            let all = self.gain.all(word);
+            let odd = if self.part.is_evens(last) {
+                all & !gained
+            } else {
+                gained
+            };
+            self.odd.set_word(number, word, odd);
+            if last > 1 {
+                self.count_rest(last, number, word, all & !gained);
+            }
+        }
+    }
+
+    fn count_rest(&mut self, last: usize, number: usize, word: usize, bits: u64) {
+        for state in states_of(word, bits) {
+            let counted = self.counted(last.wrapping_sub(1), number, state);
+            let list = self.list(last, number);
+            self.words.set(list, state, counted);
+        }
+    }
+
+    #[inline(always)]
+    pub(crate) fn is_done(&self, vertex: Vertex) -> bool {
+        self.gain.has(vertex.node, vertex.state)
+    }
+
+    /// The player of the innermost block gains a vertex at a level.
+    #[inline(always)]
+    pub(crate) fn settle(&mut self, vertex: Vertex, level: u32) {
+        let Vertex { node, state } = vertex;
+        self.gain.add(node, word_of(state), bit(state));
+        self.counts.set(node, state, level);
+    }
+}

@@ -1,0 +1,245 @@
+// Sets of states, as bits.
+
+ghost use Rattle.std.specs.Iterator.{at_most};
+
+use lists::list::List;
+use std::alloc::Global;
+
+// How many states have their bits in one word.
+const WORD: usize = 64;
+
+/// The bit of a state in its word.
+#[inline(always)]
+pub(crate) fn bit(state: usize) -> u64 {
+    1_u64 << (state % WORD)
+}
+
+/// The word of a state.
+#[inline(always)]
+pub(crate) fn word_of(state: usize) -> usize {
+    state / WORD
+}
+
+/// How many states a word has.
+pub(crate) fn count(bits: u64) -> usize {
+    bits.count_ones() as usize
+}
+
+/// The states of a word.
+#[derive(Clone, Copy)]
+pub(crate) struct States {
+    first: usize,
+    bits: u64,
+    left: u32,
+}
+
+/// The states of these bits of a word, ascending.
+#[inline(always)]
+pub(crate) fn states_of(word: usize, bits: u64) -> States {
+    States {
+        first: word.wrapping_mul(WORD),
+        bits,
+        left: u64::BITS,
+    }
+}
+
+impl Iterator for States {
+    type Item = usize;
+
+    ghost remaining = { λ s. at_most s.left };
+
+    #[inline(always)]
+    fn next(&mut self) -> Option<usize> {
+        if self.bits == 0 || self.left == 0 {
+            return None;
+        }
+        let place = self.bits.trailing_zeros() as usize;
+        self.bits &= self.bits.wrapping_sub(1);
+        self.left -= 1;
+        Some(self.first.wrapping_add(place))
+    }
+}
+
+/// Sets of states below a number, each in a row of its own.
+#[derive(Drop)]
+pub(crate) struct Sets {
+    words: List<u64>,
+    width: usize,
+    // The bits of the last word that are states.
+    tail: u64,
+}
+
+impl Sets {
+    /// So many sets of no state.
+    pub(crate) fn new(alloc: Global, rows: usize, states: usize) -> Self {
+        let width = states.div_ceil(WORD);
+        let rest = states % WORD;
+        Sets {
+            words: List::filled(alloc, rows.saturating_mul(width), 0),
+            width,
+            tail: if rest == 0 {
+                u64::MAX
+            } else {
+                bit(rest).wrapping_sub(1)
+            },
+        }
+    }
+
+    /// Whether there was memory for all.
+    pub(crate) fn is_whole(&self) -> bool {
+        self.words.is_whole()
+    }
+
+    /// The words of all sets, one set after another.
+    pub(crate) fn into_words(self) -> Vec<u64> {
+        let Sets { words, .. } = self;
+        words.into_items()
+    }
+
+    /// How many words a set has.
+    pub(crate) fn width(&self) -> usize {
+        self.width
+    }
+
+    /// All states of a word.
+    #[inline(always)]
+    pub(crate) fn all(&self, word: usize) -> u64 {
+        if word.wrapping_add(1) == self.width {
+            self.tail
+        } else {
+            u64::MAX
+        }
+    }
+
+    #[inline(always)]
+    fn place(&self, row: usize, word: usize) -> usize {
+        row.wrapping_mul(self.width).wrapping_add(word)
+    }
+
+    #[inline(always)]
+    pub(crate) fn word(&self, row: usize, word: usize) -> u64 {
+        self.words.get_or(self.place(row, word), 0)
+    }
+
+    #[inline(always)]
+    pub(crate) fn set_word(&mut self, row: usize, word: usize, bits: u64) {
+        let place = self.place(row, word);
+        self.words.set(place, bits)
+    }
+
+    /// Adds the states of a word.
+    #[inline(always)]
+    pub(crate) fn add(&mut self, row: usize, word: usize, bits: u64) {
+        let place = self.place(row, word);
+        self.words.set(place, self.words.get_or(place, 0) | bits)
+    }
+
+    #[inline(always)]
+    pub(crate) fn has(&self, row: usize, state: usize) -> bool {
+        self.word(row, word_of(state)) & bit(state) != 0
+    }
+
+    pub(crate) fn remove(&mut self, row: usize, state: usize) {
+        let word = word_of(state);
+        self.set_word(row, word, self.word(row, word) & !bit(state))
+    }
+
+    /// How many states a set has.
+    pub(crate) fn size(&self, row: usize) -> usize {
+        let mut size = 0_usize;
+        for word in 0..self.width {
+            size = size.wrapping_add(count(self.word(row, word)));
+        }
+        size
+    }
+}
+
+/// Sets of states of which those words are known that aren't empty.
+#[derive(Drop)]
+pub(crate) struct Fronts {
+    sets: Sets,
+    /// For each row its words, those that aren't empty first.
+    touched: List<u32>,
+    /// How many of them there are.
+    counts: List<usize>,
+}
+
+impl Fronts {
+    /// So many sets of no state.
+    pub(crate) fn new(alloc: Global, rows: usize, states: usize) -> Self {
+        let sets = Sets::new(alloc, rows, states);
+        Fronts {
+            touched: List::filled(alloc, rows.saturating_mul(sets.width), 0),
+            counts: List::filled(alloc, rows, 0),
+            sets,
+        }
+    }
+
+    /// Whether there was memory for all.
+    pub(crate) fn is_whole(&self) -> bool {
+        self.sets.is_whole() && self.touched.is_whole() && self.counts.is_whole()
+    }
+
+    /// How many words of a set aren't empty.
+    #[inline(always)]
+    pub(crate) fn count(&self, row: usize) -> usize {
+        self.counts.get_or(row, 0)
+    }
+
+    /// One of those words, by its place among them.
+    #[inline(always)]
+    pub(crate) fn touched(&self, row: usize, place: usize) -> usize {
+        self.touched.get_or(self.sets.place(row, place), 0) as usize
+    }
+
+    #[inline(always)]
+    pub(crate) fn word(&self, row: usize, word: usize) -> u64 {
+        self.sets.word(row, word)
+    }
+
+    #[inline(always)]
+    pub(crate) fn has(&self, row: usize, state: usize) -> bool {
+        self.sets.has(row, state)
+    }
+
+    /// Adds the states of a word.
+    #[inline(always)]
+    pub(crate) fn add(&mut self, row: usize, word: usize, bits: u64) {
+        if bits == 0 {
+            return;
+        }
+        let old = self.word(row, word);
+        if old == 0 {
+            let count = self.count(row);
+            let place = self.sets.place(row, count);
+            self.touched.set(place, u32::try_from(word).unwrap_or(0));
+            self.counts.set(row, count.wrapping_add(1));
+        }
+        self.sets.set_word(row, word, old | bits)
+    }
+
+    /// Adds a state.
+    #[inline(always)]
+    pub(crate) fn put(&mut self, row: usize, state: usize) {
+        self.add(row, word_of(state), bit(state))
+    }
+
+    /// How many states a set has.
+    pub(crate) fn size(&self, row: usize) -> usize {
+        let mut size = 0_usize;
+        for place in 0..self.count(row) {
+            let bits = self.word(row, self.touched(row, place));
+            size = size.wrapping_add(count(bits));
+        }
+        size
+    }
+
+    /// Takes all states away.
+    pub(crate) fn clear(&mut self, row: usize) {
+        for place in 0..self.count(row) {
+            let word = self.touched(row, place);
+            self.sets.set_word(row, word, 0);
+        }
+        self.counts.set(row, 0)
+    }
+}
