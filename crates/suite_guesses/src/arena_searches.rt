@@ -128,7 +128,7 @@ fn rankings_and_measures_of_arenas_are_good(rt: HostRuntime) {
 
 fn ask_nested(
     rt: &(impl Abort + Threads + AllocGlobal + Sync),
-    seed: u64,
+    seed: u32,
     questions: u32,
     least: u32,
 )
