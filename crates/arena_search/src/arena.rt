@@ -1,6 +1,7 @@
 // The nodes of a normal form at the states of a system.
 
 use crate::edges::{Edges, Kinds};
+use crate::part::Part;
 use forms::form::Normal;
 use forms::node::Kind;
 use lists::list::List;
@@ -30,6 +31,9 @@ pub(crate) struct Node {
     pub(crate) priority: u32,
     pub(crate) left: usize,
     pub(crate) right: usize,
+    /// The same, or in the place of a variable its binder, which is gained with it.
+    pub(crate) first: usize,
+    pub(crate) second: usize,
     /// The kinds of its labels.
     pub(crate) mask: u64,
     /// The first node of its component.
@@ -44,6 +48,8 @@ const NOTHING: Node = Node {
     priority: 0,
     left: NONE,
     right: NONE,
+    first: NONE,
+    second: NONE,
     mask: 0,
     root: NONE,
     height: 0,
@@ -84,6 +90,8 @@ impl Node {
 #[derive(Drop)]
 pub(crate) struct Arena {
     pub(crate) states: usize,
+    /// Whether the least measures are wanted, and not only some.
+    pub(crate) is_exact: bool,
     pub(crate) forth: Edges,
     pub(crate) back: Edges,
     nodes: List<Node>,
@@ -94,11 +102,12 @@ pub(crate) struct Arena {
 }
 
 impl Arena {
-    pub(crate) fn of(alloc: Global, lts: &Lts, form: &Normal) -> Self {
+    pub(crate) fn of(alloc: Global, lts: &Lts, form: &Normal, is_exact: bool) -> Self {
         let kinds = Kinds::of(alloc, lts, form);
         let forth = Edges::forth(alloc, lts, &kinds);
         let mut arena = Arena {
             states: lts.states() as usize,
+            is_exact,
             back: forth.reversed(alloc),
             forth,
             nodes: List::none(alloc),
@@ -224,16 +233,20 @@ impl Arena {
         }
     }
 
-    // Puts binders in the place of variables among a node's children.
+    // Puts binders in the place of variables, but where each step counts.
     fn replace_variables(&mut self, number: usize) {
         let node = self.node(number);
-        let left = self.real(node.left);
-        let right = self.real(node.right);
+        let (mut first, mut second) = (node.left, node.right);
+        if !Part::of(self, node.root).counts_steps {
+            let is_variable = node.shape == Shape::Variable;
+            first = if is_variable { NONE } else { self.real(first) };
+            second = if is_variable { NONE } else { self.real(second) };
+        }
         self.nodes.set(
             number,
             Node {
-                left,
-                right,
+                first,
+                second,
                 ..node
             },
         );
@@ -242,7 +255,7 @@ impl Arena {
     fn enter_parents(&mut self, number: usize) {
         for parent in 0..self.count() {
             let node = self.node(parent);
-            if node.shape != Shape::Variable && (node.left == number || node.right == number) {
+            if node.first == number || node.second == number {
                 self.parents.push(parent);
             }
         }

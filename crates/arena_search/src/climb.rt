@@ -2,6 +2,7 @@
 
 use crate::arena::{Arena, Node, Shape};
 use crate::edges::{state_of, takes};
+use crate::exits::NEVER;
 use crate::search::{Search, Vertex};
 use crate::sets::{bit, count, states_of, word_of};
 use std::mem;
@@ -35,10 +36,12 @@ impl Search {
             if found < FEW {
                 level = self.walk(arena, level);
             }
-            if self.left == 0 || !self.begin_level() {
+            let next = self.next_level(level);
+            if self.left == 0 || next == NEVER {
                 break;
             }
-            level = level.saturating_add(1);
+            level = next;
+            self.begin_level(level);
         }
         self.most = self.most.max(level);
     }
@@ -59,6 +62,7 @@ impl Search {
                 self.gain.set_word(number, word, bits);
                 self.delta.add(number, word, bits);
             }
+            self.expect_exit(arena, number);
         }
     }
 
@@ -88,14 +92,14 @@ impl Search {
         for place in 0..self.order.len() {
             let number = self.order.get_or(place, 0);
             let node = arena.node(number);
-            if self.part.block(node) > 0 || node.left >= self.nodes {
+            if self.part.block(node) > 0 || node.first >= self.nodes {
                 continue;
             }
             if node.is_modal() {
                 self.gather_steps(arena, number, node, is_first);
             } else {
-                self.gather(number, node, node.left, node.right);
-                self.gather(number, node, node.right, node.left);
+                self.gather(number, node, node.first, node.second);
+                self.gather(number, node, node.second, node.first);
             }
         }
     }
@@ -116,7 +120,7 @@ impl Search {
     // A node is gained at these states: in this level, or, as a binder, in the next one.
     #[inline(always)]
     fn find(&mut self, number: usize, node: Node, word: usize, bits: u64) {
-        if node.is_binder() {
+        if self.part.is_late(node) {
             self.next.add(number, word, bits);
         } else {
             self.gain.add(number, word, bits);
@@ -126,7 +130,7 @@ impl Search {
 
     // The same of a modality. In the first level one that waits for all successors is gained where there are none.
     fn gather_steps(&mut self, arena: &Arena, number: usize, node: Node, is_first: bool) {
-        let few = self.delta.size(node.left);
+        let few = self.delta.size(node.first);
         let rest = arena.states.saturating_sub(self.gain.size(number));
         let is_dense = few > MANY && few.saturating_mul(4) > rest;
         if is_dense || is_first && !self.part.wants_one(node) {
@@ -165,7 +169,7 @@ impl Search {
     #[inline(always)]
     fn has_one(&self, arena: &Arena, node: Node, state: usize) -> bool {
         for edge in arena.forth.row(state, 0) {
-            if takes(node.mask, *edge) && self.delta.has(node.left, state_of(*edge)) {
+            if takes(node.mask, *edge) && self.delta.has(node.first, state_of(*edge)) {
                 return true;
             }
         }
@@ -178,7 +182,7 @@ impl Search {
         let first = self.cursors.get_or(number, state, 0);
         let mut passed = first;
         for edge in arena.forth.row(state, first) {
-            if takes(node.mask, *edge) && !self.gain.has(node.left, state_of(*edge)) {
+            if takes(node.mask, *edge) && !self.gain.has(node.first, state_of(*edge)) {
                 self.cursors.set(number, state, passed);
                 return false;
             }
@@ -189,9 +193,9 @@ impl Search {
 
     // From new states back to their predecessors.
     fn push(&mut self, arena: &Arena, number: usize, node: Node) {
-        for place in 0..self.delta.count(node.left) {
-            let word = self.delta.touched(node.left, place);
-            let bits = self.delta.word(node.left, word);
+        for place in 0..self.delta.count(node.first) {
+            let word = self.delta.touched(node.first, place);
+            let bits = self.delta.word(node.first, word);
             for state in states_of(word, bits) {
                 self.carry_back(arena, number, node, state, Change::Gain);
             }
@@ -225,17 +229,23 @@ impl Search {
         found
     }
 
-    // The binders that are gained in the next level are new. The answer is whether there are some.
-    fn begin_level(&mut self) -> bool {
-        let mut is_new = false;
+    // The next level in which something is gained.
+    fn next_level(&self, level: u32) -> u32 {
         for place in 0..self.order.len() {
-            let number = self.order.get_or(place, 0);
-            if self.next.count(number) > 0 {
-                is_new = true;
-                self.begin_node_level(number);
+            if self.next.count(self.order.get_or(place, 0)) > 0 {
+                return level.saturating_add(1);
             }
         }
-        is_new
+        self.next_entry()
+    }
+
+    // What is gained in this level, or comes from outside, is new.
+    fn begin_level(&mut self, level: u32) {
+        for place in 0..self.order.len() {
+            let number = self.order.get_or(place, 0);
+            self.begin_node_level(number);
+        }
+        self.enter_exits(level)
     }
 
     fn begin_node_level(&mut self, number: usize) {
@@ -257,10 +267,11 @@ impl Search {
         }
         for _ in 0..u64::MAX {
             let count = self.later.len();
-            if count == 0 || count > 2 * FEW || self.left == 0 {
+            let next = level.saturating_add(1);
+            if count == 0 || count > 2 * FEW || self.left == 0 || self.next_entry() <= next {
                 break;
             }
-            level = level.saturating_add(1);
+            level = next;
             mem::swap(&mut self.todo, &mut self.later);
             self.walk_level(arena, level);
         }
@@ -361,7 +372,7 @@ impl Search {
         } else if node.is_modal() {
             self.has_all(arena, number, node, state)
         } else {
-            self.gain.has(node.left, state) && self.gain.has(node.right, state)
+            self.gain.has(node.first, state) && self.gain.has(node.second, state)
         }
     }
 
@@ -373,7 +384,7 @@ impl Search {
         };
         if !self.is_walking {
             self.find(number, node, word_of(state), bit(state));
-        } else if node.is_binder() {
+        } else if self.part.is_late(node) {
             self.later.push(vertex);
         } else {
             self.todo.push(vertex);

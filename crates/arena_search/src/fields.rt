@@ -53,6 +53,40 @@ impl Fields {
         self.low.saturating_add(self.width.saturating_mul(below))
     }
 
+    /// The fields of this priority and of all greater ones.
+    pub(crate) fn above(&self, priority: u32) -> u64 {
+        !power(self.place(priority)).wrapping_sub(1)
+    }
+
+    /// What a number has in the field of a priority, if there is one.
+    pub(crate) fn count(&self, priority: u32, word: u64) -> u32 {
+        let fields = word & self.above(priority) & !self.above(priority.wrapping_add(1));
+        let count = fields.checked_shr(self.place(priority)).unwrap_or(0);
+        u32::try_from(count).unwrap_or(u32::MAX)
+    }
+
+    /// How vertices of a priority count.
+    pub(crate) fn step(&self, priority: u32) -> Step {
+        let above = self.above(priority);
+        if power(priority) & u64::from(self.priorities) == 0 {
+            return Step {
+                above,
+                unit: 0,
+                field: 0,
+            };
+        }
+        Step {
+            above,
+            unit: power(self.place(priority)),
+            field: above & !self.above(priority.wrapping_add(1)),
+        }
+    }
+
+    /// How many of the lowest bits don't count at a priority.
+    pub(crate) fn shift(&self, priority: u32) -> u32 {
+        self.place(priority)
+    }
+
     /// One in the field of groups.
     pub(crate) fn group_unit(&self) -> u64 {
         power(u64::BITS.saturating_sub(self.group))
@@ -65,6 +99,30 @@ impl Fields {
             shifts.push(self.place(priority));
         }
         shifts
+    }
+}
+
+/// How a player counts vertices of a priority.
+#[derive(Clone, Copy)]
+pub(crate) struct Step {
+    // The fields of the priority and of greater ones.
+    above: u64,
+    // One in its own field, where the player counts it, and that field.
+    unit: u64,
+    field: u64,
+}
+
+impl Step {
+    /// What is counted from a vertex on, where this is counted from its successor on.
+    #[inline(always)]
+    pub(crate) fn carried(&self, word: u64) -> u64 {
+        (word & self.above).wrapping_add(self.unit)
+    }
+
+    /// Whether one more can be counted.
+    #[inline(always)]
+    pub(crate) fn has_room(&self, word: u64) -> bool {
+        self.unit == 0 || word & self.field != self.field
     }
 }
 
@@ -92,6 +150,23 @@ impl Layout {
             even: Fields::of(priorities & EVENS, 1, group),
             odd: Fields::of(priorities & !EVENS, low, group),
         }
+    }
+
+    /// Fields that count all that a least measure does.
+    pub(crate) fn of_measures(arena: &Arena) -> Self {
+        let mut priorities = 3;
+        for number in 0..arena.count() {
+            priorities |= (power(arena.node(number).priority) & u64::from(u32::MAX)) as u32;
+        }
+        Layout {
+            even: Fields::of(priorities & EVENS, 0, 0),
+            odd: Fields::of(priorities & !EVENS, 0, 0),
+        }
+    }
+
+    /// The fields of a player.
+    pub(crate) fn fields(&self, is_odd: bool) -> Fields {
+        if is_odd { self.odd } else { self.even }
     }
 
     /// One in the field of a priority, for the player who counts it.

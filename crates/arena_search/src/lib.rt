@@ -4,7 +4,10 @@
 mod arena;
 mod climb;
 mod edges;
+mod exits;
 mod fields;
+mod lift;
+pub mod measures;
 mod mend;
 mod part;
 pub mod ranking;

@@ -4,13 +4,11 @@
 use crate::arena::{Arena, Node};
 use crate::climb::Change;
 use crate::edges::{state_of, takes};
+use crate::exits::NEVER;
 use crate::search::{Search, Vertex};
 use crate::sets::{bit, word_of};
 use std::cmp::Reverse;
 use std::mem;
-
-// No level.
-const NEVER: u32 = u32::MAX;
 
 /// A vertex that is gained again at a level.
 pub(crate) type Later = (Reverse<u32>, usize, usize);
@@ -113,18 +111,18 @@ impl Search {
 
     // The level at which a vertex is gained by the levels of its children.
     fn level(&self, arena: &Arena, node: Node, state: usize) -> u32 {
-        if node.is_modal() {
-            return self.level_by_steps(arena, node, state);
-        }
-        let left = self.level_of(arena, node.left, state);
-        let right = self.level_of(arena, node.right, state);
-        if node.is_binder() {
-            left.saturating_add(1)
-        } else if self.part.wants_one(node) {
-            left.min(right)
+        let level = if node.is_modal() {
+            self.level_by_steps(arena, node, state)
         } else {
-            left.max(right)
-        }
+            let first = self.level_of(arena, node.first, state);
+            let second = self.level_of(arena, node.second, state);
+            if self.part.wants_one(node) {
+                first.min(second)
+            } else {
+                first.max(second)
+            }
+        };
+        level.saturating_add(u32::from(self.part.is_late(node)))
     }
 
     fn level_by_steps(&self, arena: &Arena, node: Node, state: usize) -> u32 {
@@ -132,7 +130,7 @@ impl Search {
         let mut best = if wants_one { NEVER } else { 0 };
         for edge in arena.forth.row(state, 0) {
             if takes(node.mask, *edge) {
-                let level = self.level_of(arena, node.left, state_of(*edge));
+                let level = self.level_of(arena, node.first, state_of(*edge));
                 best = if wants_one {
                     best.min(level)
                 } else {

@@ -14,6 +14,8 @@ pub(crate) struct Part {
     pub(crate) blocks: usize,
     /// Whether nodes lead back to themselves.
     pub(crate) is_cyclic: bool,
+    /// Whether each node of the innermost block counts.
+    pub(crate) counts_steps: bool,
 }
 
 impl Part {
@@ -35,12 +37,19 @@ impl Part {
             least,
             blocks: (greatest.saturating_sub(least) as usize).wrapping_add(1),
             is_cyclic: size > 1,
+            counts_steps: arena.is_exact && size > 1 && least == 0,
         }
     }
 
     #[inline(always)]
     pub(crate) fn has(&self, node: Node) -> bool {
         node.root == self.root
+    }
+
+    /// Whether a node of the innermost block is gained one level after the children by which it is.
+    #[inline(always)]
+    pub(crate) fn is_late(&self, node: Node) -> bool {
+        node.is_binder() || self.counts_steps
     }
 
     /// The priority of a block.

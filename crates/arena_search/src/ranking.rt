@@ -116,15 +116,10 @@ fn ranking_of(alloc: Global, arena: &Arena, search: Search) -> Option<GuessedRan
 /// Guesses who wins each node of a normal form at each state of a system, as a ranking. There is none where that takes too long, where
 /// its counts don't fit their fields, or for want of memory.
 pub fn ranking(alloc: Global, lts: &Lts, form: &Normal) -> Option<GuessedRanking> {
-    let arena = Arena::of(alloc, lts, form);
+    let arena = Arena::of(alloc, lts, form, false);
     if !arena.is_whole() {
         return None;
     }
-    let mut search = Search::new(alloc, &arena);
-    for root in (0..arena.count()).rev() {
-        if arena.node(root).root == root && search.left > 0 {
-            search.solve(alloc, &arena, root);
-        }
-    }
+    let search = Search::of(alloc, &arena);
     ranking_of(alloc, &arena, search)
 }

@@ -58,18 +58,27 @@ pub(crate) struct Search {
     pub(crate) most: u32,
     /// How many more vertices may be looked at.
     pub(crate) left: u64,
+    /// For each node the measures of who wins it, where these are wanted.
+    pub(crate) measures: Table<u64>,
+    /// For each node whether it is outside and what is won there counts, and how many such nodes there are.
+    pub(crate) are_timed: List<bool>,
+    pub(crate) timed: usize,
     pub(crate) is_whole: bool,
 }
 
 impl Search {
-    pub(crate) fn new(alloc: Global, arena: &Arena) -> Self {
+    fn new(alloc: Global, arena: &Arena) -> Self {
         let (nodes, states) = (arena.count(), arena.states);
         let mut blocks = 2;
         for root in 0..nodes {
             blocks = Part::of(arena, root).blocks.max(blocks);
         }
         Search {
-            layout: Layout::of(arena),
+            layout: if arena.is_exact {
+                Layout::of_measures(arena)
+            } else {
+                Layout::of(arena)
+            },
             part: Part::of(arena, 0),
             nodes,
             order: List::none(alloc),
@@ -90,6 +99,9 @@ impl Search {
             waiting: BinaryHeap::new(alloc),
             most: 0,
             left: BUDGET,
+            measures: Table::new(alloc, nodes),
+            are_timed: List::filled(alloc, nodes, false),
+            timed: 0,
             is_whole: true,
         }
     }
@@ -109,6 +121,8 @@ impl Search {
             && are_few
             && are_counts
             && self.gone.is_whole()
+            && self.measures.is_whole()
+            && self.are_timed.is_whole()
             && self.is_whole
     }
 
@@ -128,11 +142,23 @@ impl Search {
         self.left = self.left.saturating_sub(vertices as u64);
     }
 
-    /// Finds who wins the nodes of the component with this root, where it is known of those below it.
-    pub(crate) fn solve(&mut self, alloc: Global, arena: &Arena, root: usize) {
+    /// What is found of all nodes, component by component.
+    pub(crate) fn of(alloc: Global, arena: &Arena) -> Self {
+        let mut search = Search::new(alloc, arena);
+        for root in (0..arena.count()).rev() {
+            if arena.node(root).root == root && search.left > 0 {
+                search.solve(alloc, arena, root);
+            }
+        }
+        search
+    }
+
+    // Finds who wins the nodes of the component with this root, where it is known of those below it.
+    fn solve(&mut self, alloc: Global, arena: &Arena, root: usize) {
         self.part = Part::of(arena, root);
         self.order.clear();
         self.exits.clear();
+        self.timed = 0;
         for number in (root..self.nodes).rev() {
             self.enter(alloc, arena, number);
         }
@@ -141,18 +167,22 @@ impl Search {
             let number = self.order.get_or(place, 0);
             self.conclude(number);
         }
+        if arena.is_exact {
+            self.lift_part(alloc, arena);
+        }
     }
 
     // Enters a node of the component, with lists for what is counted, and its children that are outside.
     fn enter(&mut self, alloc: Global, arena: &Arena, number: usize) {
         let node = arena.node(number);
-        if !self.part.has(node) || node.shape == Shape::Variable {
+        let is_variable = node.shape == Shape::Variable && !self.part.counts_steps;
+        if !self.part.has(node) || is_variable {
             return;
         }
         self.order.push(number);
-        for child in [node.left, node.right] {
+        for child in [node.first, node.second] {
             if child < self.nodes && !self.part.has(arena.node(child)) {
-                self.exits.push(child);
+                self.enter_exit(arena, child);
             }
         }
         if node.is_modal() && !self.part.wants_one(node) {
@@ -219,16 +249,6 @@ impl Search {
         }
     }
 
-    /// What the player of a block has of a node outside.
-    pub(crate) fn exit(&self, block: usize, number: usize, word: usize) -> u64 {
-        let odd = self.odd.word(number, word);
-        if self.part.is_evens(block) {
-            self.gain.all(word) & !odd
-        } else {
-            odd
-        }
-    }
-
     /// What the player of a block has of a binder of a block further out.
     pub(crate) fn held(&self, block: usize, own: usize, number: usize, word: usize) -> u64 {
         let gained = self.gain.word(self.row(own, number), word);
@@ -273,7 +293,7 @@ impl Search {
             if own < block {
                 self.gain_rest(block, number, round);
             } else if own == block {
-                self.find_fresh(arena, block, number, node.left);
+                self.find_fresh(arena, block, number, node.first);
             }
         }
         let round = round.saturating_add(1);
@@ -283,10 +303,10 @@ impl Search {
             self.gain_fresh(block, number, round);
         }
         if self.lost.is_empty() {
-            return false;
+            return self.wait_for_exits(arena, block);
         }
         self.rounds.set(block, round);
-        block > 1 || self.mend_rounds(arena)
+        block > 1 || self.timed > 0 || self.mend_rounds(arena)
     }
 
     // A block's player gains the states of a node that the other one hasn't gained inside.
@@ -347,9 +367,14 @@ impl Search {
 
     /// What the player of a block counts there and inside it.
     pub(crate) fn counted(&self, block: usize, number: usize, state: usize) -> u64 {
+        self.counted_in(self.part, block, number, state)
+    }
+
+    /// What the player of a component's block counts there and inside it.
+    pub(crate) fn counted_in(&self, part: Part, block: usize, number: usize, state: usize) -> u64 {
         if block < 2 {
             let count = self.counts.get_or(self.row(block, number), state, 0);
-            let unit = self.layout.unit(self.part.priority(block));
+            let unit = self.layout.unit(part.priority(block));
             unit.wrapping_mul(u64::from(count))
         } else {
             self.words.get_or(self.list(block, number), state, 0)

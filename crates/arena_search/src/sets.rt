@@ -139,6 +139,14 @@ impl Sets {
         self.word(row, word_of(state)) & bit(state) != 0
     }
 
+    /// Makes a set another one.
+    pub(crate) fn copy(&mut self, row: usize, other: usize) {
+        for word in 0..self.width {
+            let bits = self.word(other, word);
+            self.set_word(row, word, bits);
+        }
+    }
+
     pub(crate) fn remove(&mut self, row: usize, state: usize) {
         let word = word_of(state);
         self.set_word(row, word, self.word(row, word) & !bit(state))

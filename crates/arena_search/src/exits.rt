@@ -1,0 +1,157 @@
+// Nodes outside a component. Where no measures are wanted all that is won there is gained at once; else at the level, or in the round, that its
+// measure says.
+
+use crate::arena::Arena;
+use crate::search::Search;
+use crate::sets::{bit, states_of, word_of};
+use std::cmp::Reverse;
+
+/// No level.
+pub(crate) const NEVER: u32 = u32::MAX;
+
+impl Search {
+    /// Enters a node outside, and finds whether what is won there counts in the component.
+    pub(crate) fn enter_exit(&mut self, arena: &Arena, number: usize) {
+        self.exits.push(number);
+        let is_timed = arena.is_exact && self.counts_here(arena, number);
+        self.are_timed.set(number, is_timed);
+        self.timed = self.timed.saturating_add(usize::from(is_timed));
+    }
+
+    fn counts_here(&self, arena: &Arena, number: usize) -> bool {
+        for state in 0..arena.states {
+            if self.counted_here(number, state) != 0 {
+                return true;
+            }
+        }
+        false
+    }
+
+    // What the measure of a vertex counts in the fields of the component's blocks.
+    fn counted_here(&self, number: usize, state: usize) -> u64 {
+        let fields = self.layout.fields(self.odd.has(number, state));
+        let end = self.part.priority(self.part.blocks);
+        let here = fields.above(self.part.least) & !fields.above(end);
+        self.measures.get_or(number, state, 0) & here
+    }
+
+    // The rounds at hand of a player's blocks outside of a block.
+    fn rounds_around(&self, is_odd: bool, block: usize) -> u64 {
+        let mut rounds = 0_u64;
+        for outer in block.wrapping_add(1)..self.part.blocks {
+            if self.part.is_evens(outer) != is_odd {
+                let unit = self.layout.unit(self.part.priority(outer));
+                let round = u64::from(self.rounds.get_or(outer, 0));
+                rounds = rounds.wrapping_add(unit.wrapping_mul(round));
+            }
+        }
+        rounds
+    }
+
+    // The level or round in which the player of a block gains a vertex outside.
+    fn entry(&self, block: usize, number: usize, state: usize) -> u32 {
+        let is_odd = self.odd.has(number, state);
+        let is_own = self.part.is_evens(block) != is_odd;
+        let fields = self.layout.fields(is_odd);
+        let priority = self.part.priority(block);
+        let word = self.counted_here(number, state);
+        let above = fields.above(priority.wrapping_add(u32::from(is_own)));
+        let rounds = self.rounds_around(is_odd, block) & above;
+        if is_own && word & above == rounds {
+            fields.count(priority, word)
+        } else if (word & above < rounds) == is_own && word & above != rounds {
+            0
+        } else {
+            NEVER
+        }
+    }
+
+    /// What the player of a block has of a node outside in the round at hand.
+    pub(crate) fn exit(&self, block: usize, number: usize, word: usize) -> u64 {
+        let odd = self.odd.word(number, word);
+        let all = self.gain.all(word);
+        if self.are_timed.get_or(number, false) {
+            self.entered(block, number, word, all)
+        } else if self.part.is_evens(block) {
+            all & !odd
+        } else {
+            odd
+        }
+    }
+
+    fn entered(&self, block: usize, number: usize, word: usize, all: u64) -> u64 {
+        let round = self.rounds.get_or(block, 0);
+        let mut bits = 0;
+        for state in states_of(word, all) {
+            if self.entry(block, number, state) <= round {
+                bits |= bit(state);
+            }
+        }
+        bits
+    }
+
+    /// What the player of the innermost block gains of a node outside after the first level waits for its own.
+    pub(crate) fn expect_exit(&mut self, arena: &Arena, number: usize) {
+        if !self.are_timed.get_or(number, false) {
+            return;
+        }
+        for state in 0..arena.states {
+            let level = self.entry(0, number, state);
+            if level > 0 && level != NEVER {
+                self.is_whole &= self.waiting.push((Reverse(level), number, state)).is_ok();
+            }
+        }
+    }
+
+    /// The level at which the next one of those comes.
+    pub(crate) fn next_entry(&self) -> u32 {
+        match self.waiting.peek() {
+            Some((Reverse(level), _, _)) => *level,
+            None => NEVER,
+        }
+    }
+
+    /// Those that come at this level are new.
+    pub(crate) fn enter_exits(&mut self, level: u32) {
+        for _ in 0..u64::MAX {
+            if self.next_entry() != level {
+                break;
+            }
+            let Some((_, number, state)) = self.waiting.pop() else {
+                break;
+            };
+            self.gain.add(number, word_of(state), bit(state));
+            self.delta.put(number, state);
+        }
+    }
+
+    /// Where a round changes nothing, the next one is that in which something comes from outside. The answer is whether there is one.
+    pub(crate) fn wait_for_exits(&mut self, arena: &Arena, block: usize) -> bool {
+        if self.timed == 0 {
+            return false;
+        }
+        let mut next = NEVER;
+        for place in 0..self.exits.len() {
+            let number = self.exits.get_or(place, 0);
+            if self.are_timed.get_or(number, false) {
+                next = next.min(self.entry_after(arena, block, number));
+            }
+        }
+        if next != NEVER {
+            self.rounds.set(block, next);
+        }
+        next != NEVER
+    }
+
+    fn entry_after(&self, arena: &Arena, block: usize, number: usize) -> u32 {
+        let round = self.rounds.get_or(block, 0);
+        let mut next = NEVER;
+        for state in 0..arena.states {
+            let entry = self.entry(block, number, state);
+            if entry > round {
+                next = next.min(entry);
+            }
+        }
+        next
+    }
+}
