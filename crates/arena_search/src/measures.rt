@@ -4,6 +4,7 @@ use crate::arena::Arena;
 use crate::part::Part;
 use crate::search::Search;
 use forms::form::Normal;
+use lists::list::List;
 use std::alloc::Global;
 use systems::system::Lts;
 
@@ -25,6 +26,8 @@ impl Side {
 pub struct Measures {
     arena: Arena,
     search: Search,
+    // The component of each node.
+    parts: List<Part>,
 }
 
 /// Guesses the least measures of both players. There are none where that takes too long, where counts don't fit a word, or for want of memory.
@@ -34,8 +37,16 @@ pub fn least_measures(alloc: Global, lts: &Lts, form: &Normal) -> Option<Measure
         return None;
     }
     let search = Search::of(alloc, &arena);
-    if search.is_whole() {
-        Some(Measures { arena, search })
+    let mut parts = List::none(alloc);
+    for node in 0..arena.count() {
+        parts.push(Part::of(&arena, arena.node(node).root));
+    }
+    if search.is_whole() && parts.is_whole() {
+        Some(Measures {
+            arena,
+            search,
+            parts,
+        })
     } else {
         None
     }
@@ -62,15 +73,21 @@ impl Measures {
         }
     }
 
+    /// How many nodes there are.
+    pub fn nodes(&self) -> usize {
+        self.search.nodes
+    }
+
     /// The number of a node's component: less where it is further down.
-    pub fn group(&self, node: usize) -> usize {
-        self.search.nodes.saturating_sub(self.arena.node(node).root)
+    pub fn group(&self, node: usize) -> u32 {
+        let group = self.search.nodes.saturating_sub(self.arena.node(node).root);
+        u32::try_from(group).unwrap_or(u32::MAX)
     }
 
     /// What falls along the edges of a component where the player's count of this priority stays the same. It counts what the opponent does.
     pub fn height(&self, side: Side, priority: u32, node: usize, state: usize) -> u64 {
         let own = self.arena.node(node);
-        let part = Part::of(&self.arena, own.root);
+        let part = self.parts.get_or(node, self.search.part);
         let unit = self.search.layout.unit(0);
         let base = if side.is_odd() || part.counts_steps || !part.is_cyclic {
             0
