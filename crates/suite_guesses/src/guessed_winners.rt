@@ -18,7 +18,7 @@ use std::thread::Threads;
 const GAMES: u32 = 2_500;
 
 // Lifting is asked of games with no more vertices, as it takes long for others.
-const MOST_LIFTED: u32 = 12;
+const MOST_LIFTED: u32 = 8;
 
 // Of games at random how many vertices there are at most, how many priorities, and how many steps from each vertex at most.
 #[derive(Clone, Copy)]
@@ -30,22 +30,22 @@ struct Shape {
 
 static SHAPES: [Shape; 4] = [
     Shape {
-        vertices: 12,
+        vertices: 8,
         priorities: 8,
         steps: 4,
     },
     Shape {
-        vertices: 30,
+        vertices: 12,
         priorities: 4,
         steps: 2,
     },
     Shape {
-        vertices: 30,
+        vertices: 12,
         priorities: 33,
         steps: 3,
     },
     Shape {
-        vertices: 200,
+        vertices: 40,
         priorities: 12,
         steps: 2,
     },
