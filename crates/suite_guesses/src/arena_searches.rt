@@ -149,3 +149,88 @@ fn rankings_and_measures_of_nested_formulas_are_good(rt: HostRuntime) {
     ask_nested(&rt, 30, NESTED, 3);
     ask_nested(&rt, 31, DEEP, 5);
 }
+
+// Whether a player's measure of a node at a state is this one.
+fn is_measure_of(
+    found: &Measures,
+    side: Side,
+    node: usize,
+    state: usize,
+    measure: &Measure,
+) -> bool {
+    let counts = measure.counts();
+    let mut written = [0_u32; 16];
+    let width = counts.len().min(16);
+    found.counts_into(side, node, state, &mut written[..width]);
+    if measure.is_top() || found.is_top(side, node, state) {
+        return measure.is_top() == found.is_top(side, node, state);
+    }
+    &written[..width] == counts
+}
+
+// Whether the measures of a player are those of the least table.
+fn are_measures_of(
+    found: &Measures,
+    side: Side,
+    nodes: u32,
+    game: &Game,
+    table: &PlainTable,
+) -> bool
+    requires { table.now.game ≡ game.now }
+{
+    for v in 2..game.vertices() {
+        let place = v - 2;
+        let node = place.checked_rem(nodes).unwrap_or(0);
+        let state = place.checked_div(nodes).unwrap_or(0);
+        let measure = table.value(v);
+        if !is_measure_of(found, side, node as usize, state as usize, &measure) {
+            return false;
+        }
+    }
+    true
+}
+
+// The measures of a player are those that lifting alone leaves of the player's game.
+fn are_lifted(
+    rt: &(impl Abort + AllocGlobal),
+    found: &Measures,
+    side: Side,
+    nodes: u32,
+    game: &Game,
+) {
+    let table = lifted_alone(rt, game);
+    holds!(rt; are_measures_of(found, side, nodes, game, &table));
+    drop(table);
+}
+
+// Whether measures of a question are found, and its game has a dual. If so, they are those that lifting alone leaves.
+fn is_measured(rt: &(impl Abort + AllocGlobal), question: &Question) -> bool {
+    let nodes = question.form.count();
+    let found = least_measures(rt.alloc(), &question.lts, &question.form).expect(rt, "measures");
+    are_lifted(rt, &found, Side::Even, nodes, &question.game);
+    let is_dual = match dual_of(rt, &question.game) {
+        Some(turned) => {
+            are_lifted(rt, &found, Side::Odd, nodes, &turned);
+            drop(turned);
+            true
+        }
+        None => false,
+    };
+    drop(found);
+    is_dual
+}
+
+#[test]
+fn measures_of_arenas_are_the_least(rt: HostRuntime) {
+    let mut dice = Dice::new(31);
+    let mut measured = 0_u32;
+    for _ in 0..MEASURED {
+        let states = 1 + dice.roll(8);
+        let question = roll_question(&rt, &mut dice, states);
+        if is_measured(&rt, &question) {
+            measured = measured.saturating_add(1);
+        }
+        drop(question);
+    }
+    counted(&rt, measured, MEASURED);
+}
