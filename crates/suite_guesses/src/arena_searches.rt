@@ -18,8 +18,8 @@ use samples::dice::Dice;
 use std::process::Abort;
 use std::thread::Threads;
 
-// How many systems and formulas there are, how many whose binders alternate three times or four, and how many with five binders or six.
-const QUESTIONS: u32 = 10_000;
+// How many systems and formulas each of two tests has, how many whose binders alternate three times or four, and how many with five binders or six.
+const QUESTIONS: u32 = 5_000;
 
 const NESTED: u32 = 400;
 
@@ -114,16 +114,25 @@ const NONE_YET: Tally = Tally {
     measured: 0,
 };
 
-#[test]
-fn rankings_and_measures_of_arenas_are_good(rt: HostRuntime) {
-    let mut dice = Dice::new(29);
+fn ask_any(rt: &(impl Abort + Threads + AllocGlobal + Sync), seed: u32) {
+    let mut dice = Dice::new(seed);
     let mut tally = NONE_YET;
     for _ in 0..QUESTIONS {
         let states = 1 + dice.roll(12);
-        let question = roll_question(&rt, &mut dice, states);
-        tally.ask(&rt, question);
+        let question = roll_question(rt, &mut dice, states);
+        tally.ask(rt, question);
     }
-    tally.has_all(&rt, QUESTIONS);
+    tally.has_all(rt, QUESTIONS);
+}
+
+#[test]
+fn rankings_and_measures_of_arenas_are_good(rt: HostRuntime) {
+    ask_any(&rt, 29);
+}
+
+#[test]
+fn rankings_and_measures_of_more_arenas_are_good(rt: HostRuntime) {
+    ask_any(&rt, 32);
 }
 
 fn ask_nested(
