@@ -12,7 +12,7 @@ use Rattle.engines.proofs.engine.check_by_game.Goals as goal
 
 pub returns-in-Ok-clause-answers : goal.returns-in-Ok-clause-answers
 returns-in-Ok-clause-answers g c = λ first second spelled.
-    by_way (way_in c.in-Ok.field-0.found) _ first second _ c.answer_prepared.result c.in-Ok.ensures.way
+    by_way (way_in c.in-Ok.found) _ first second _ c.answer_prepared.result c.in-Ok.ensures.way
     (c.answer_prepared.ensures.answers first second (subst (λ (t : Texts). AreSpelled first second t.system.system (closed_formula t.formula))
     (sym c.in-Ok.ensures.texts) spelled))
 
