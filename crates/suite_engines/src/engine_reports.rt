@@ -174,16 +174,16 @@ fn passes_refusals_on(rt: HostRuntime) {
     refuses(&rt, (RING, many.as_str()), "N2", &BY_GAMES);
 }
 
-/// The report on a ring of 2,500 states, at each of which the formula holds.
+/// The report on a ring of 200 states, at each of which the formula holds.
 pub(crate) fn ring_report(rt: &(impl Abort + AllocGlobal)) -> String {
     report_of_the_ring(rt.alloc()).expect(rt, "memory")
 }
 
 fn report_of_the_ring(alloc: Global) -> Result<String, AllocError> {
     let head =
-        "system 2500 states 2500 transitions initial 0\nformula [true*]<true*><a>true\nyes 2500 of 2500\ninitial yes\n";
+        "system 200 states 200 transitions initial 0\nformula [true*]<true*><a>true\nyes 200 of 200\ninitial yes\n";
     let mut want = String::from_str(alloc, head)?;
-    for state in 0..2500 {
+    for state in 0..200 {
         write!(want, "{state} yes\n")?;
     }
     Ok(want)

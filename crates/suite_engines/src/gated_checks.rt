@@ -70,14 +70,14 @@ fn is_reported<R: Abort + AllocGlobal + Threads + Wait + Clone + Copy + Drop + S
     holds!(rt; report.as_slice() == wanted.as_bytes(), "the report on the ring");
 }
 
-// The report on a ring of 2,500 states, at each of which the formula holds, is the same whatever the team.
+// The report on a ring of 200 states, at each of which the formula holds, is the same whatever the team.
 fn shows_no_team<R: Abort + AllocGlobal + Threads + Wait + Clone + Copy + Drop + Send + Sync>(
     rt: &R,
     workers: u32,
     shards: u32,
     board: BoardKind,
 ) {
-    let system = ring_of(rt, 2500);
+    let system = ring_of(rt, 200);
     let wanted = ring_report(rt);
     let options = team(rt, workers, shards, board);
     is_reported(rt, system.as_str(), &options, wanted.as_str());
