@@ -90,7 +90,8 @@ fn lifted_by<R: Abort + AllocGlobal + Threads + Wait + Clone + Copy + Drop + Sen
     requires workers { 0 < workers }
     ensures { result.game ≡ arc_value game.now }
 {
-    solve_locked(rt, rt.alloc(), game, shards, workers, &NoGate).expect(rt, "memory")
+    let table = opened(rt, game);
+    solve_locked(rt, rt.alloc(), game, table, shards, workers, &NoGate).expect(rt, "memory")
 }
 
 // The workers' table is that of one thread.
@@ -142,7 +143,8 @@ fn meet<R: Abort + AllocGlobal + Threads + Wait + Clone + Copy + Drop + Send + S
     game: &Arc<Game, Global>,
 ) {
     let gate = Meeting::new();
-    holds!(rt; solve_locked(rt, rt.alloc(), game, 16, 2, &gate).is_ok());
+    let table = opened(rt, game);
+    holds!(rt; solve_locked(rt, rt.alloc(), game, table, 16, 2, &gate).is_ok());
     holds!(rt; gate.took_place());
 }
 
