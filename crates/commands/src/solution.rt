@@ -76,7 +76,13 @@ pub(crate) fn evidence_by<
         vertices: game.vertices(),
     });
     match require_board(game, options.board) {
-        Ok(()) => match certified_evidence(rt, alloc, game, options.workers as usize, observer.gauge()) {
+        Ok(()) => match certified_evidence(
+            rt,
+            alloc,
+            game,
+            options.workers as usize,
+            observer.gauge(),
+        ) {
             Some(pair) => Ok(pair),
             None => evidence_by_lifting(rt, alloc, game, options, observer),
         },
