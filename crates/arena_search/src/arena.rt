@@ -93,7 +93,6 @@ pub(crate) struct Arena {
     /// Whether the least measures are wanted, and not only some.
     pub(crate) is_exact: bool,
     pub(crate) forth: Edges,
-    pub(crate) back: Edges,
     nodes: List<Node>,
     // For each node where the list of those that have it for a child starts.
     starts: List<usize>,
@@ -108,7 +107,6 @@ impl Arena {
         let mut arena = Arena {
             states: lts.states() as usize,
             is_exact,
-            back: forth.reversed(alloc),
             forth,
             nodes: List::none(alloc),
             starts: List::filled(alloc, 1, 0),
@@ -130,7 +128,6 @@ impl Arena {
     /// Whether labels are of few kinds, and there was memory for all.
     pub(crate) fn is_whole(&self) -> bool {
         self.forth.is_whole()
-            && self.back.is_whole()
             && self.nodes.is_whole()
             && self.starts.is_whole()
             && self.parents.is_whole()

@@ -13,6 +13,9 @@ const FEW: usize = 100;
 // From fewer states none are looked for by the edges that lead to them.
 const MANY: usize = 2_000;
 
+// How many times as long it takes to go back from a state as to look whether another one leads there.
+const BACK: usize = 16;
+
 /// What becomes of the vertices that lead to another one.
 #[derive(Clone, Copy)]
 pub(crate) enum Change {
@@ -128,22 +131,47 @@ impl Search {
         }
     }
 
-    // The same of a modality. In the first level one that waits for all successors is gained where there are none.
+    // What a modality gains by the new states of its child. In the first level one that waits for all successors is gained where there are none, too.
     fn gather_steps(&mut self, arena: &Arena, number: usize, node: Node, is_first: bool) {
         let few = self.delta.size(node.first);
-        let rest = arena.states.saturating_sub(self.gain.size(number));
-        let is_dense = few > MANY && few.saturating_mul(4) > rest;
-        if is_dense || is_first && !self.part.wants_one(node) {
+        let rest = self.rest_of(number);
+        let is_dense = few > MANY && few.saturating_mul(BACK) > rest;
+        let are_ends = is_first && !self.part.wants_one(node);
+        if is_dense || are_ends || is_first && few > 0 {
             self.pull(arena, number, node);
-        } else {
+        } else if few > 0 {
             self.push(arena, number, node);
         }
+    }
+
+    // The states of a node that may be gained yet: what the player of the next block has gained before was lost for good.
+    #[inline(always)]
+    fn rest(&self, number: usize, word: usize) -> u64 {
+        let gained = self.gain.word(number, word);
+        self.gain.all(word) & !gained & !self.lost_word(number, word)
+    }
+
+    #[inline(always)]
+    fn lost_word(&self, number: usize, word: usize) -> u64 {
+        if self.part.blocks > 1 {
+            self.gain.word(self.row(1, number), word)
+        } else {
+            0
+        }
+    }
+
+    fn rest_of(&self, number: usize) -> usize {
+        let mut rest = 0_usize;
+        for word in 0..self.gain.width() {
+            rest = rest.wrapping_add(count(self.rest(number, word)));
+        }
+        rest
     }
 
     // From the states that aren't gained yet on to their successors.
     fn pull(&mut self, arena: &Arena, number: usize, node: Node) {
         for word in 0..self.gain.width() {
-            let rest = self.gain.all(word) & !self.gain.word(number, word);
+            let rest = self.rest(number, word);
             let bits = self.pulled(arena, number, node, word, rest);
             self.find(number, node, word, bits);
         }
@@ -193,6 +221,7 @@ impl Search {
 
     // From new states back to their predecessors.
     fn push(&mut self, arena: &Arena, number: usize, node: Node) {
+        self.want_back(arena);
         for place in 0..self.delta.count(node.first) {
             let word = self.delta.touched(node.first, place);
             let bits = self.delta.word(node.first, word);
@@ -273,6 +302,7 @@ impl Search {
             }
             level = next;
             mem::swap(&mut self.todo, &mut self.later);
+            self.want_back(arena);
             self.walk_level(arena, level);
         }
         self.is_walking = false;
@@ -335,9 +365,10 @@ impl Search {
         state: usize,
         change: Change,
     ) {
-        for edge in arena.back.row(state, 0) {
-            if takes(node.mask, *edge) {
-                self.meet(arena, number, node, state_of(*edge), change);
+        for place in self.back.places(state) {
+            let edge = self.back.edge(place);
+            if takes(node.mask, edge) {
+                self.meet(arena, number, node, state_of(edge), change);
             }
         }
     }
@@ -370,7 +401,8 @@ impl Search {
         if self.part.wants_one(node) {
             true
         } else if node.is_modal() {
-            self.has_all(arena, number, node, state)
+            let is_lost = self.lost_word(number, word_of(state)) & bit(state) != 0;
+            !is_lost && self.has_all(arena, number, node, state)
         } else {
             self.gain.has(node.first, state) && self.gain.has(node.second, state)
         }

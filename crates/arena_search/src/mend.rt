@@ -32,8 +32,11 @@ impl Search {
 
     // Takes away what is lost and what rests on it, and gains again what has another support. The answer is whether that wasn't too much.
     fn mend(&mut self, arena: &Arena) -> bool {
-        let many = (arena.states / 16).saturating_add(64);
         self.gone.clear();
+        if self.lost.len() > self.many_lost {
+            return false;
+        }
+        self.want_back(arena);
         for place in 0..self.lost.len() {
             self.drop_lost(place);
         }
@@ -41,7 +44,7 @@ impl Search {
             let Some(vertex) = self.todo.pop() else {
                 break;
             };
-            if self.gone.len() > many {
+            if self.gone.len() > self.many_lost {
                 self.todo.clear();
                 return false;
             }

@@ -1,6 +1,7 @@
 // What is found of a component: the innermost block by levels, the others by rounds.
 
 use crate::arena::{Arena, Node, Shape};
+use crate::edges::Edges;
 use crate::fields::Layout;
 use crate::mend::Later;
 use crate::part::Part;
@@ -23,8 +24,11 @@ pub(crate) struct Vertex {
 /// The search, with the component at hand.
 #[derive(Drop)]
 pub(crate) struct Search {
+    alloc: Global,
     pub(crate) layout: Layout,
     pub(crate) part: Part,
+    /// The edges back, once they are wanted.
+    pub(crate) back: Edges,
     pub(crate) nodes: usize,
     /// The nodes of the component but variables, each after those below it.
     pub(crate) order: List<usize>,
@@ -54,6 +58,8 @@ pub(crate) struct Search {
     pub(crate) lost: List<Vertex>,
     pub(crate) gone: List<Vertex>,
     pub(crate) waiting: BinaryHeap<Later>,
+    /// More lost vertices than so many aren't mended.
+    pub(crate) many_lost: usize,
     /// The greatest count.
     pub(crate) most: u32,
     /// How many more vertices may be looked at.
@@ -74,12 +80,14 @@ impl Search {
             blocks = Part::of(arena, root).blocks.max(blocks);
         }
         Search {
+            alloc,
             layout: if arena.is_exact {
                 Layout::of_measures(arena)
             } else {
                 Layout::of(arena)
             },
             part: Part::of(arena, 0),
+            back: Edges::none(alloc),
             nodes,
             order: List::none(alloc),
             exits: List::none(alloc),
@@ -97,6 +105,7 @@ impl Search {
             lost: List::none(alloc),
             gone: List::none(alloc),
             waiting: BinaryHeap::new(alloc),
+            many_lost: (states / 16).saturating_add(64),
             most: 0,
             left: BUDGET,
             measures: Table::new(alloc, nodes),
@@ -121,6 +130,7 @@ impl Search {
             && are_few
             && are_counts
             && self.gone.is_whole()
+            && self.back.is_whole()
             && self.measures.is_whole()
             && self.are_timed.is_whole()
             && self.is_whole
@@ -140,6 +150,13 @@ impl Search {
     /// So many vertices were looked at.
     pub(crate) fn pay(&mut self, vertices: usize) {
         self.left = self.left.saturating_sub(vertices as u64);
+    }
+
+    /// Has the edges back at hand.
+    pub(crate) fn want_back(&mut self, arena: &Arena) {
+        if self.back.is_empty() {
+            self.back = arena.forth.reversed(self.alloc);
+        }
     }
 
     /// What is found of all nodes, component by component.
@@ -334,14 +351,19 @@ impl Search {
             let word = self.next.touched(number, place);
             let bits = self.next.word(number, word);
             self.note(block, number, word, bits, round);
-            for state in states_of(word, bits) {
-                self.lost.push(Vertex {
-                    node: number,
-                    state,
-                });
-            }
+            self.list_lost(number, word, bits);
         }
         self.next.clear(number);
+    }
+
+    // Lists what is lost, until there is so much of it that a climb has to follow.
+    fn list_lost(&mut self, node: usize, word: usize, bits: u64) {
+        if self.lost.len() > self.many_lost {
+            return;
+        }
+        for state in states_of(word, bits) {
+            self.lost.push(Vertex { node, state });
+        }
     }
 
     /// A block's player gains these states of a node in a round.
