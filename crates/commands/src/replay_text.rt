@@ -24,6 +24,7 @@ use requests::error::MuError;
 use requests::request::Replay;
 use requests::texts::{Texts, read_both};
 use std::alloc::Global;
+use std::hash::BuildHasher;
 use std::thread::Threads;
 use text::error::ReadFault;
 use text::sink::Sink;
@@ -38,6 +39,7 @@ use text::source::Source;
 /// events or of their state; U3 where a read of the formula or of the schedule failed, U4 for the memory of their texts; W1
 /// where a write failed. After a refusal that is not W1 nothing was written.
 pub fn replay_text<
+    L: BuildHasher + Drop,
     R: Source + Drop,
     S: Source + Drop,
     T: Source + Drop,
@@ -46,6 +48,7 @@ pub fn replay_text<
 >(
     rt: &H,
     alloc: Global,
+    hasher: L,
     aut: R,
     formula: S,
     schedule: T,
@@ -55,7 +58,7 @@ pub fn replay_text<
     ensures replays { Replays workers (R.remaining aut) (S.remaining formula) (T.remaining schedule) (W.taken out.old) (W.taken out.new) result }
     ensures cause { IfErr result (HaveCauses R.can_fail (S.can_fail || T.can_fail)) }
 {
-    match read_both(alloc, aut, formula) {
+    match read_both(alloc, hasher, aut, formula) {
         Ok(texts) => replay_of(rt, alloc, &texts, schedule, workers, out),
         Err(error) => Err(error),
     }
@@ -66,6 +69,7 @@ pub fn replay_text<
 /// # Errors
 /// Those of `replay_text`.
 pub fn replay_asked<
+    L: BuildHasher + Drop,
     R: Source + Drop,
     S: Source + Drop,
     T: Source + Drop,
@@ -75,6 +79,7 @@ pub fn replay_asked<
     rt: &H,
     alloc: Global,
     request: &Replay<'_>,
+    hasher: L,
     aut: R,
     formula: S,
     schedule: T,
@@ -84,7 +89,16 @@ pub fn replay_asked<
         (W.taken out.old) (W.taken out.new) result }
     ensures cause { IfErr result (HaveCauses R.can_fail (S.can_fail || T.can_fail)) }
 {
-    replay_text(rt, alloc, aut, formula, schedule, request.workers, out)
+    replay_text(
+        rt,
+        alloc,
+        hasher,
+        aut,
+        formula,
+        schedule,
+        request.workers,
+        out,
+    )
 }
 
 /// Replays the schedule in the game of a system and a formula that were read, and writes what it comes to.

@@ -137,6 +137,8 @@ impl<'a> Files<'a> {
                 let _ = place.set(target);
                 Ok(())
             }
+            // It is tried again, as a write is.
+            Err(error) if error.kind() == ErrorKind::Interrupted => Err(error),
             Err(error) => {
                 let kind = error.kind();
                 let _ = self.refusal.set(Refusal::of_file(self.rt, name, error));

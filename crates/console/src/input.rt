@@ -4,7 +4,10 @@ use crate::line::ProgressLine;
 use crate::refusal::Refusal;
 use gauge::Gauge;
 use invocation::inputs::is_standard_input;
+use lts::AutError;
+use requests::error::MuError;
 use std::fs::File;
+use std::hash::RandomState;
 use std::io::{Read, Stdin};
 use std::{fs, io};
 
@@ -40,6 +43,17 @@ pub fn open(rt: &HostRuntime, name: &str) -> Result<Input, Refusal> {
             size: size_of(rt, name),
         }),
         Err(error) => Err(Refusal::of_file(rt, name, error)),
+    }
+}
+
+/// What tells labels of a system apart as they are read: by a seed that is new in each run, so nobody can make labels that meet.
+///
+/// # Errors
+/// A8 where no seed can be had.
+pub fn label_hasher(rt: &HostRuntime) -> Result<RandomState, MuError> {
+    match RandomState::new(rt) {
+        Ok(hasher) => Ok(hasher),
+        Err(_) => Err(MuError::System(AutError::Read)),
     }
 }
 

@@ -23,6 +23,7 @@ use requests::texts::{Texts, read_asked, read_both};
 use requests::watch::Watcher;
 use requests::writers::{EvidenceWriters, Writers};
 use std::alloc::Global;
+use std::hash::BuildHasher;
 use std::sync::Wait;
 use std::thread::Threads;
 use text::sink::Sink;
@@ -114,8 +115,9 @@ macro_rules! answer_lent {
 ///
 /// # Errors
 /// Those of the readers, unchanged; U3 where a read of the formula failed, U4 for memory in the engine, W1 in the report.
-pub fn check_plain<R: Source + Drop, S: Source + Drop, W: Sink>(
+pub fn check_plain<L: BuildHasher + Drop, R: Source + Drop, S: Source + Drop, W: Sink>(
     alloc: Global,
+    hasher: L,
     aut: R,
     formula: S,
     out: &mut W,
@@ -124,7 +126,7 @@ pub fn check_plain<R: Source + Drop, S: Source + Drop, W: Sink>(
     ensures plain { IfErr result (IsErrorOf BySets) }
     ensures cause { IfErr result (HaveCauses R.can_fail S.can_fail) }
 {
-    match read_both(alloc, aut, formula) {
+    match read_both(alloc, hasher, aut, formula) {
         Ok(texts) => report_plain(alloc, &texts, ReportForm::Whole, out, &Silent),
         Err(error) => Err(error),
     }
@@ -186,6 +188,7 @@ fn report<W: Sink>(
 /// # Errors
 /// Those of `check_plain`, or of `check`; L1 where it is strict. E5 and N3 also for want of memory where a witness is made.
 pub fn check_asked<
+    L: BuildHasher + Drop,
     R: Source + Drop,
     S: Source + Drop,
     G: Sink,
@@ -200,6 +203,7 @@ pub fn check_asked<
     alloc: Global,
     request: &Check<'_>,
     wanted: Wanted,
+    hasher: L,
     aut: R,
     formula: S,
     writers: &mut Writers<G, E, O, V, W>,
@@ -209,7 +213,7 @@ pub fn check_asked<
         (lent_writers G.taken E.taken O.taken V.taken W.taken (wanted_in request.now wanted) writers.old writers.new) result }
     ensures cause { IfErr result (HaveCauses R.can_fail S.can_fail) }
 {
-    match read_asked(alloc, aut, formula, request.strict, watcher) {
+    match read_asked(alloc, hasher, aut, formula, request.strict, watcher) {
         Ok(texts) => check_read(rt, alloc, request, wanted, texts, writers, watcher),
         Err(error) => Err(error),
     }
@@ -254,6 +258,7 @@ fn check_read<
 /// Those of `check_one`; T1 where the packed board is asked for and the rank of top doesn't fit a word, and only there; T2 and V1
 /// for memory of the board and of the workers' table.
 pub fn check<
+    L: BuildHasher + Drop,
     R: Source + Drop,
     S: Source + Drop,
     W: Sink,
@@ -264,6 +269,7 @@ pub fn check<
 >(
     rt: &H,
     alloc: Global,
+    hasher: L,
     aut: R,
     formula: S,
     options: &Options,
@@ -276,7 +282,7 @@ pub fn check<
         ++ (no_writer ∷ report_writer Whole (W.taken out.old) (W.taken out.new)))) result }
     ensures cause { IfErr result (HaveCauses R.can_fail S.can_fail) }
 {
-    let found = match find_with(rt, alloc, aut, formula, options, &NoGate) {
+    let found = match find_with(rt, alloc, hasher, aut, formula, options, &NoGate) {
         Ok(found) => found,
         Err(error) => return Err(error),
     };
@@ -290,6 +296,7 @@ pub fn check<
 /// # Errors
 /// Those of `check`.
 pub fn check_gated<
+    L: BuildHasher + Drop,
     R: Source + Drop,
     S: Source + Drop,
     W: Sink,
@@ -301,6 +308,7 @@ pub fn check_gated<
 >(
     rt: &H,
     alloc: Global,
+    hasher: L,
     aut: R,
     formula: S,
     options: &Options,
@@ -314,7 +322,7 @@ pub fn check_gated<
         ++ (no_writer ∷ report_writer Whole (W.taken out.old) (W.taken out.new)))) result }
     ensures cause { IfErr result (HaveCauses R.can_fail S.can_fail) }
 {
-    let found = match find_with(rt, alloc, aut, formula, options, gate) {
+    let found = match find_with(rt, alloc, hasher, aut, formula, options, gate) {
         Ok(found) => found,
         Err(error) => return Err(error),
     };
@@ -392,6 +400,7 @@ fn report_by_game<
 /// Those of the readers, of the normal form and of the game, unchanged; E5 for memory in evidence; U3 where a read of the
 /// formula failed, U4 for memory in the engine. W1 where a write failed: the texts before it are whole, those after it empty.
 pub fn check_one<
+    L: BuildHasher + Drop,
     R: Source + Drop,
     S: Source + Drop,
     W: Sink,
@@ -402,6 +411,7 @@ pub fn check_one<
 >(
     rt: &H,
     alloc: Global,
+    hasher: L,
     aut: R,
     formula: S,
     options: &Options,
@@ -414,7 +424,7 @@ pub fn check_one<
         ++ (no_writer ∷ report_writer Whole (W.taken out.old) (W.taken out.new)))) result }
     ensures cause { IfErr result (HaveCauses R.can_fail S.can_fail) }
 {
-    let found = match find_alone(rt, alloc, aut, formula, options.priorities) {
+    let found = match find_alone(rt, alloc, hasher, aut, formula, options.priorities) {
         Ok(found) => found,
         Err(error) => return Err(error),
     };

@@ -25,6 +25,7 @@ use requests::request::{Options, Why};
 use requests::texts::{Texts, read_asked};
 use requests::watch::Watcher;
 use std::alloc::Global;
+use std::hash::BuildHasher;
 use std::sync::Wait;
 use std::thread::Threads;
 use text::sink::Sink;
@@ -54,6 +55,7 @@ pub(crate) struct Told {
 /// # Errors
 /// Those of `check_asked` where it writes a witness alone.
 pub fn tell_why<
+    L: BuildHasher + Drop,
     R: Source + Drop,
     S: Source + Drop,
     W: Sink,
@@ -63,6 +65,7 @@ pub fn tell_why<
     rt: &H,
     alloc: Global,
     request: &Why<'_>,
+    hasher: L,
     aut: R,
     formula: S,
     out: &mut W,
@@ -72,7 +75,7 @@ pub fn tell_why<
         (W.taken out.old) (W.taken out.new) result }
     ensures cause { IfErr result (HaveCauses R.can_fail S.can_fail) }
 {
-    match read_asked(alloc, aut, formula, request.strict, watcher) {
+    match read_asked(alloc, hasher, aut, formula, request.strict, watcher) {
         Ok(texts) => tell_read(rt, alloc, texts, &request.options, out, watcher),
         Err(error) => Err(error),
     }

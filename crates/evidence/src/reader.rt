@@ -26,7 +26,7 @@ use std::alloc::Global;
 use std::io::ErrorKind;
 use text::error::ReadFault;
 use text::scan::cut_at;
-use text::source::{Blocks, Source, blocks_of, fault_of};
+use text::source::{Blocks, Source, blocks_of};
 use text::stream::has_line;
 
 // Reads the header.
@@ -110,7 +110,7 @@ fn at_hand<B: Blocks>(
     let block = match reader.fill_buf() {
         Ok(block) => block,
         Err(error) if error.kind() == ErrorKind::Interrupted => return Ok(None),
-        Err(error) => return Err(fault_of(reader, &error)),
+        Err(_) => return Err(reader.fault()),
     };
     let Some((line, _)) = cut_at(block, b'\n') else {
         return Ok(None);

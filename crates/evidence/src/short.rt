@@ -12,7 +12,7 @@ use crate::limits::{LONGEST_LINE, MOST_DIGITS};
 use std::alloc::AllocError;
 use std::io::ErrorKind;
 use text::error::ReadFault;
-use text::source::{Blocks, fault_after, fault_of};
+use text::source::Blocks;
 
 // Keeps the byte if there is room for it.
 fn put(kept: &mut Vec<u8>, byte: u8) -> Result<(), AllocError>
@@ -86,7 +86,7 @@ fn short_on<B: Blocks>(
     let block = match reader.fill_buf() {
         Ok(block) => block,
         Err(error) if error.kind() == ErrorKind::Interrupted => return Ok(Some(digits)),
-        Err(error) => return Err(fault_of(reader, &error)),
+        Err(_) => return Err(reader.fault()),
     };
     let count = before_end(block);
     let len = block.len();
@@ -111,5 +111,5 @@ pub(crate) fn short_line<B: Blocks>(reader: &mut B, kept: &mut Vec<u8>) -> Resul
             None => return Ok(()),
         }
     }
-    Err(fault_after(reader))
+    Err(reader.fault())
 }

@@ -17,7 +17,7 @@ use crate::line::Line;
 use std::alloc::Global;
 use std::io::ErrorKind;
 use text::error::ReadFault;
-use text::source::{Blocks, Source, blocks_of, fault_after, fault_of};
+use text::source::{Blocks, Source, blocks_of};
 
 fn worker_of(event: Event) -> usize
     ensures { result ≡ worker_of_event event }
@@ -175,7 +175,7 @@ fn take_block<B: Blocks>(reader: &mut B, intake: &mut Intake) -> Result<bool, Re
     let block = match reader.fill_buf() {
         Ok(block) => block,
         Err(error) if error.kind() == ErrorKind::Interrupted => return Ok(true),
-        Err(error) => return Err(ReadError::Read(fault_of(reader, &error))),
+        Err(_) => return Err(ReadError::Read(reader.fault())),
     };
     let len = block.len();
     intake.take_all(block)?;
@@ -195,7 +195,7 @@ fn read_text<B: Blocks>(reader: &mut B, mut intake: Intake) -> Result<Vec<Event>
             return Ok(intake.finish()?);
         }
     }
-    Err(ReadError::Read(fault_after(reader)))
+    Err(ReadError::Read(reader.fault()))
 }
 
 /// Reads a schedule as [`read_schedule`] does, and keeps no line of its text: of it there is a block of 8,192 bytes, beside the events.

@@ -7,62 +7,81 @@ ghost use Rattle.systems.specs.Label.{texts};
 ghost use Rattle.lts.specs.Gathered.{HasLabel, Extends, Gathers};
 
 use crate::error::Memory;
-use crate::index::Index;
+use crate::recent::Recent;
 use crate::scan::Spelled;
+use indexmap::IndexSet;
 use std::alloc::Global;
+use std::hash::BuildHasher;
 use systems::system::Transition;
 
-/// The transitions so far, and the label of each number.
+/// The transitions so far, and the labels, each once and found by its hash.
 #[derive(Drop)]
-pub(crate) struct Rows {
-    pub labels: Vec<Vec<u8>>,
+pub(crate) struct Rows<S: BuildHasher> {
+    pub labels: IndexSet<Vec<u8>, S>,
     pub transitions: Vec<Transition>,
-    index: Index,
+    recent: Recent,
 }
 
 // The number of the label, which is added if it is new.
-fn number_of(
+fn number_of<S: BuildHasher>(
     alloc: Global,
-    labels: &mut Vec<Vec<u8>>,
-    index: &mut Index,
+    labels: &mut IndexSet<Vec<u8>, S>,
     label: &[u8],
 ) -> Result<u32, Memory>
-    requires { length labels.old.items < 2 ^ 32 - 1 }
-    ensures number { IfOk result (λ k. HasLabel (texts labels.new.items) k label.now) }
-    ensures kept { OnOk result (Extends (texts labels.old.items) (texts labels.new.items) label.now) }
-    ensures len { OnOk result (length labels.new.items ≤ length labels.old.items + 1) }
+    requires { length labels.old.keys < 2 ^ 32 - 1 }
+    ensures number { IfOk result (λ k. HasLabel (texts labels.new.keys) k label.now) }
+    ensures kept { OnOk result (Extends (texts labels.old.keys) (texts labels.new.keys) label.now) }
+    ensures len { OnOk result (length labels.new.keys ≤ length labels.old.keys + 1) }
 {
-    if let Some(number) = index.number(labels, label) {
+    if let Some(number) = labels.get_index_of(label) {
+        return Ok(number as u32);
+    }
+    let (number, _) = labels.insert_full(Vec::from_slice(alloc, label)?)?;
+    Ok(number as u32)
+}
+
+// The same number, which is looked for among those that came lately first.
+fn lately_or_of<S: BuildHasher>(
+    alloc: Global,
+    labels: &mut IndexSet<Vec<u8>, S>,
+    recent: &mut Recent,
+    label: &[u8],
+) -> Result<u32, Memory>
+    requires { length labels.old.keys < 2 ^ 32 - 1 }
+    ensures number { IfOk result (λ k. HasLabel (texts labels.new.keys) k label.now) }
+    ensures kept { OnOk result (Extends (texts labels.old.keys) (texts labels.new.keys) label.now) }
+    ensures len { OnOk result (length labels.new.keys ≤ length labels.old.keys + 1) }
+{
+    if let Some(number) = recent.number(labels.as_slice(), label) {
         return Ok(number);
     }
-    let number = labels.len() as u32;
-    labels.push(Vec::from_slice(alloc, label)?)?;
-    index.note(alloc, labels)?;
+    let number = number_of(alloc, labels, label)?;
+    recent.put(label, number);
     Ok(number)
 }
 
-impl Rows {
-    pub(crate) fn new(alloc: Global) -> Rows
-        ensures empty { Gathers (texts result.labels.items) result.transitions.items [] }
-        ensures len { length result.labels.items ≡ 0 }
+impl<S: BuildHasher> Rows<S> {
+    pub(crate) fn new(alloc: Global, hasher: S) -> Rows<S>
+        ensures empty { Gathers (texts result.labels.keys) result.transitions.items [] }
+        ensures len { length result.labels.keys ≡ 0 }
         ensures count { length result.transitions.items ≡ 0 }
     {
         Rows {
-            labels: Vec::new(alloc),
+            labels: IndexSet::with_hasher(alloc, hasher),
             transitions: Vec::new(alloc),
-            index: Index::new(alloc),
+            recent: Recent::new(),
         }
     }
 
     /// Adds a transition at the end.
     pub(crate) fn add(&mut self, alloc: Global, spelled: Spelled<'_>) -> Result<(), Memory>
-        requires { length self.old.labels.items < 2 ^ 32 - 1 }
-        ensures added { OnOk result ((arrows : List Arrow) → Gathers (texts self.old.labels.items) self.old.transitions.items arrows
-            → Gathers (texts self.new.labels.items) self.new.transitions.items (arrows ++ said spelled.entry ∷ [])) }
-        ensures len { OnOk result (length self.new.labels.items ≤ length self.old.labels.items + 1) }
+        requires { length self.old.labels.keys < 2 ^ 32 - 1 }
+        ensures added { OnOk result ((arrows : List Arrow) → Gathers (texts self.old.labels.keys) self.old.transitions.items arrows
+            → Gathers (texts self.new.labels.keys) self.new.transitions.items (arrows ++ said spelled.entry ∷ [])) }
+        ensures len { OnOk result (length self.new.labels.keys ≤ length self.old.labels.keys + 1) }
         ensures count { OnOk result (length self.new.transitions.items ≡ length self.old.transitions.items + 1) }
     {
-        let label = number_of(alloc, &mut self.labels, &mut self.index, spelled.label)?;
+        let label = lately_or_of(alloc, &mut self.labels, &mut self.recent, spelled.label)?;
         self.transitions.push(Transition {
             source: spelled.source,
             label,

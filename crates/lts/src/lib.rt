@@ -3,7 +3,6 @@
 
 mod assemble;
 pub mod error;
-mod index;
 mod intake;
 pub mod law;
 mod packed;

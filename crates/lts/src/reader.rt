@@ -19,6 +19,7 @@ use crate::error::{AutError, AutFault};
 use crate::intake::Rows;
 use crate::scan::{Announced, Kept, Spelled, header, transition};
 use std::alloc::Global;
+use std::hash::BuildHasher;
 use std::mem;
 use systems::limits::{LONGEST_LABEL, MOST_STATES, MOST_TRANSITIONS};
 use systems::system::{Lts, Transition};
@@ -85,23 +86,23 @@ fn row_fault(spelled: Spelled<'_>, states: u32) -> Option<AutFault>
 }
 
 // Reads the transition that comes after so many of them.
-fn read_row<B: Blocks>(
+fn read_row<B: Blocks, S: BuildHasher>(
     alloc: Global,
     reader: &mut B,
     kept: &mut Kept,
     found: Announced,
     good: u32,
-    rows: &mut Rows,
+    rows: &mut Rows<S>,
 ) -> Result<(), AutError>
     requires due { good < found.transitions }
     requires admitted { IsWithinLimits found }
-    requires labels { length rows.old.labels.items ≤ good }
+    requires labels { length rows.old.labels.keys ≤ good }
     ensures row { OnOk result ((old : Option (List ℕ)) → ArrowsSoFar found.states good old (B.remaining reader.old)
-        (texts rows.old.labels.items) rows.old.transitions.items
-        → ArrowsSoFar found.states (good + 1) old (B.remaining reader.new) (texts rows.new.labels.items) rows.new.transitions.items) }
-    ensures labels { OnOk result (length rows.new.labels.items ≤ good + 1) }
+        (texts rows.old.labels.keys) rows.old.transitions.items
+        → ArrowsSoFar found.states (good + 1) old (B.remaining reader.new) (texts rows.new.labels.keys) rows.new.transitions.items) }
+    ensures labels { OnOk result (length rows.new.labels.keys ≤ good + 1) }
     ensures fault { IfErr result (λ e. (old : Option (List ℕ))
-        → ArrowsSoFar found.states good old (B.remaining reader.old) (texts rows.old.labels.items) rows.old.transitions.items
+        → ArrowsSoFar found.states good old (B.remaining reader.old) (texts rows.old.labels.keys) rows.old.transitions.items
         → RefusesAut old (HasAutRestFault found) e) }
     ensures cause { IfErr result (HasCause B.can_fail errors.Read) }
 {
@@ -141,22 +142,22 @@ fn read_end<B: Blocks>(reader: &mut B, found: Announced) -> Result<(), AutError>
 }
 
 // Reads the transitions into rows that have none yet.
-fn read_rows<B: Blocks>(
+fn read_rows<B: Blocks, S: BuildHasher>(
     alloc: Global,
     reader: &mut B,
     kept: &mut Kept,
     found: Announced,
-    rows: &mut Rows,
+    rows: &mut Rows<S>,
 ) -> Result<(), AutError>
     requires admitted { IsWithinLimits found }
-    requires none { Gathers (texts rows.old.labels.items) rows.old.transitions.items [] }
-    requires unlabelled { length rows.old.labels.items ≡ 0 }
+    requires none { Gathers (texts rows.old.labels.keys) rows.old.transitions.items [] }
+    requires unlabelled { length rows.old.labels.keys ≡ 0 }
     ensures rows { OnOk result ((arrows : List Arrow)
-        × Gathers (texts rows.new.labels.items) rows.new.transitions.items arrows
+        × Gathers (texts rows.new.labels.keys) rows.new.transitions.items arrows
         × AllByRecursion (IsArrow found.states) arrows
         × IfKnown (B.remaining reader.old) (B.remaining reader.new) (AreTransitions found arrows)) }
     ensures within { OnOk result (length rows.new.transitions.items ≤ MOST_TRANSITIONS) }
-    ensures labels { OnOk result (length rows.new.labels.items ≤ MOST_TRANSITIONS) }
+    ensures labels { OnOk result (length rows.new.labels.keys ≤ MOST_TRANSITIONS) }
     ensures fault { IfErr result (RefusesAut (B.remaining reader.old) (HasAutRestFault found)) }
     ensures cause { IfErr result (HasCause B.can_fail errors.Read) }
 {
@@ -167,16 +168,16 @@ fn read_rows<B: Blocks>(
 }
 
 // Reads what follows the header, by way of rows that have no transition yet.
-fn read_rest<B: Blocks>(
+fn read_rest<B: Blocks, S: BuildHasher>(
     alloc: Global,
     reader: &mut B,
     kept: &mut Kept,
     found: Announced,
-    rows: &mut Rows,
+    rows: &mut Rows<S>,
 ) -> Result<Lts, AutError>
     requires admitted { IsWithinLimits found }
-    requires none { Gathers (texts rows.old.labels.items) rows.old.transitions.items [] }
-    requires unlabelled { length rows.old.labels.items ≡ 0 }
+    requires none { Gathers (texts rows.old.labels.keys) rows.old.transitions.items [] }
+    requires unlabelled { length rows.old.labels.keys ≡ 0 }
     ensures rest { IfOk result (λ l. (arrows : List Arrow)
         × AllByRecursion (IsArrow found.states) arrows
         × IfKnown (B.remaining reader.old) (B.remaining reader.new) (AreTransitions found arrows)
@@ -190,14 +191,18 @@ fn read_rest<B: Blocks>(
 }
 
 // Reads the whole text.
-fn read_text<B: Blocks>(alloc: Global, reader: &mut B) -> Result<Lts, AutError>
+fn read_text<B: Blocks, S: BuildHasher + Drop>(
+    alloc: Global,
+    hasher: S,
+    reader: &mut B,
+) -> Result<Lts, AutError>
     ensures spelled { IfOk result (λ l. IfSome (B.remaining reader.old) (λ text. IsAut text l.system)) }
     ensures fault { IfErr result (RefusesAut (B.remaining reader.old) HasAutFault) }
     ensures cause { IfErr result (HasCause B.can_fail errors.Read) }
 {
     let mut kept = Kept::new(alloc);
     let found = read_first(reader, &mut kept.digits)?;
-    let mut rows = Rows::new(alloc);
+    let mut rows = Rows::new(alloc, hasher);
     read_rest(alloc, reader, &mut kept, found, &mut rows)
 }
 
@@ -207,10 +212,14 @@ fn read_text<B: Blocks>(alloc: Global, reader: &mut B) -> Result<Lts, AutError>
 ///
 /// # Errors
 /// The first faulty line decides. A text is also refused where a read fails, or for want of memory.
-pub fn read_aut<R: Source + Drop>(alloc: Global, reader: R) -> Result<Lts, AutError>
+pub fn read_aut<R: Source + Drop, S: BuildHasher + Drop>(
+    alloc: Global,
+    hasher: S,
+    reader: R,
+) -> Result<Lts, AutError>
     ensures reads { Reads IsAut IsAut IsAut HasAutFaultAt (λ l. l.system) aut_fault_of (R.remaining reader) result }
     ensures cause { IfErr result (HasCause R.can_fail errors.Read) }
 {
     let mut blocks = blocks_of(alloc, reader)?;
-    read_text(alloc, &mut blocks)
+    read_text(alloc, hasher, &mut blocks)
 }

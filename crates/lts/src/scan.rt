@@ -14,7 +14,7 @@ use std::alloc::Global;
 use std::io::ErrorKind;
 use systems::limits::LONGEST_LABEL;
 use text::error::ReadFault;
-use text::source::{Blocks, fault_of};
+use text::source::Blocks;
 use text::stream::{has_ended, number_before, quoted, sign, word};
 
 /// What a header says. A number that is too great for its type is read as the greatest one.
@@ -142,7 +142,7 @@ fn at_hand<B: Blocks>(reader: &mut B, kept: &mut Kept) -> Result<Option<Ends>, R
     let block = match reader.fill_buf() {
         Ok(block) => block,
         Err(error) if error.kind() == ErrorKind::Interrupted => return Ok(None),
-        Err(error) => return Err(fault_of(reader, &error)),
+        Err(_) => return Err(reader.fault()),
     };
     let Some(line) = plain_line(block) else {
         return Ok(None);

@@ -1,7 +1,7 @@
 // The command `check`.
 
 use console::files::{Files, evidence_names};
-use console::input::{CountedInput, open};
+use console::input::{CountedInput, label_hasher, open};
 use console::line::{Output, ProgressLine};
 use console::refusal::Refusal;
 use console::same::keep_apart;
@@ -72,12 +72,14 @@ fn write_files<T: Threads + Wait + Clock + Clone + Copy + Drop + Send + Sync + '
 ) -> Result<bool, MuError> {
     let alloc = rt.alloc();
     let wanted = files.wanted(report);
+    let hasher = label_hasher(rt)?;
     let mut writers = files.writers(Output::new(*rt, line));
     check_asked(
         threads,
         alloc,
         request,
         wanted,
+        hasher,
         system,
         formula,
         &mut writers,

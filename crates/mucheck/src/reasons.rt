@@ -1,6 +1,6 @@
 // The command `why`.
 
-use console::input::{CountedInput, open};
+use console::input::{CountedInput, label_hasher, open};
 use console::line::{Output, ProgressLine};
 use console::refusal::Refusal;
 use console::stats::Stats;
@@ -18,12 +18,14 @@ pub fn run_why<T: Threads + Wait + Clock + Clone + Copy + Drop + Send + Sync + '
 ) -> Result<bool, Refusal> {
     let system = open(rt, request.system)?;
     let formula = open(rt, request.formula)?;
+    let hasher = label_hasher(rt)?;
     let line = ProgressLine::new(*rt, threads, Stats::Nothing, None);
     let ticker = line.start();
     let answer = tell_why(
         threads,
         rt.alloc(),
         request,
+        hasher,
         CountedInput::new(system, &line),
         CountedInput::new(formula, &line),
         &mut Output::new(*rt, &line),

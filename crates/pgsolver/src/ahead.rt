@@ -8,7 +8,7 @@ ghost use Rattle.pgsolver.specs.Passes.{SkipsTo, PassesGap, PassesComma, PassesD
 
 use text::bytes::is_blank;
 use text::error::ReadFault;
-use text::source::{Blocks, fault_after};
+use text::source::Blocks;
 use text::stream::look;
 
 /// Takes the blank that is next, if one is, and says whether it was there.
@@ -37,7 +37,7 @@ pub(crate) fn next<B: Blocks>(reader: &mut B) -> Result<Option<u8>, ReadFault>
             next => return Ok(next),
         }
     }
-    Err(fault_after(reader))
+    Err(reader.fault())
 }
 
 /// Takes the blanks in front and the comma behind them, and says whether a comma was there.

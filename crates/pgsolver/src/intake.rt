@@ -12,7 +12,7 @@ use crate::scan::Head;
 use crate::tokens::by_tokens;
 use std::io::ErrorKind;
 use text::error::ReadFault;
-use text::source::{Blocks, fault_of};
+use text::source::Blocks;
 
 // Reads the line that is next where it stands whole in the block at hand, as tools write it. Else it takes nothing.
 fn at_hand<B: Blocks>(reader: &mut B, targets: &mut Vec<u32>) -> Result<Option<Head>, ReadFault>
@@ -22,7 +22,7 @@ fn at_hand<B: Blocks>(reader: &mut B, targets: &mut Vec<u32>) -> Result<Option<H
     let block = match reader.fill_buf() {
         Ok(block) => block,
         Err(error) if error.kind() == ErrorKind::Interrupted => return Ok(None),
-        Err(error) => return Err(fault_of(reader, &error)),
+        Err(_) => return Err(reader.fault()),
     };
     let Some(line) = plain_line(block, targets)? else {
         return Ok(None);

@@ -16,7 +16,7 @@ use crate::scan::{Head, is_name};
 use game::player::Player;
 use std::alloc::AllocError;
 use text::error::ReadFault;
-use text::source::{Blocks, fault_after};
+use text::source::Blocks;
 use text::stream::{has_ended, number, number_before, quoted, sign, word};
 
 // So many successors are kept as they stand, at least.
@@ -136,7 +136,7 @@ fn more_targets<B: Blocks>(
         put(targets, target)?;
         room = each_once(targets, room);
     }
-    Err(fault_after(reader))
+    Err(reader.fault())
 }
 
 // Takes the successors, adds them to the list, and says whether a line may go on so.

@@ -22,6 +22,7 @@ use lts::reader::read_aut;
 use lts::system::Lts;
 use measures::observer::{Silent, Stage};
 use std::alloc::Global;
+use std::hash::BuildHasher;
 use std::io::Read;
 use text::source::{Noted, Source};
 use text::{Memory, ReadFault};
@@ -54,8 +55,9 @@ struct Reading {
 ///
 /// # Errors
 /// Those of the readers, unchanged; U3 where a read of the formula failed, U4 for memory in the engine.
-pub fn read_both<R: Source + Drop, S: Source + Drop>(
+pub fn read_both<L: BuildHasher + Drop, R: Source + Drop, S: Source + Drop>(
     alloc: Global,
+    hasher: L,
     aut: R,
     formula: S,
 ) -> Result<Texts, MuError>
@@ -66,38 +68,20 @@ pub fn read_both<R: Source + Drop, S: Source + Drop>(
     ensures plain { IfErr result (IsErrorOf BySets) }
     ensures cause { IfErr result (HaveCauses R.can_fail S.can_fail) }
 {
-    read_both_seen(alloc, aut, formula, &Silent)
-}
-
-/// Reads both as `read_both` does, and tells a watcher that the system is read, that the formula is, and what both are.
-///
-/// # Errors
-/// Those of `read_both`.
-pub fn read_both_seen<R: Source + Drop, S: Source + Drop, O: Watcher>(
-    alloc: Global,
-    aut: R,
-    formula: S,
-    observer: &O,
-) -> Result<Texts, MuError>
-    ensures spelled { (first second : List ℕ) → R.remaining aut ≡ Some first → S.remaining formula ≡ Some second
-        → IfOk result (λ texts. AreSpelled first second texts.system.system (closed_formula texts.formula)) }
-    ensures refusal { (first second : List ℕ) → R.remaining aut ≡ Some first → S.remaining formula ≡ Some second
-        → (way : Way) (writers : List Lent) → AreKept writers → IfErr result (RefusesCheck way first second writers) }
-    ensures plain { IfErr result (IsErrorOf BySets) }
-    ensures cause { IfErr result (HaveCauses R.can_fail S.can_fail) }
-{
-    match read_all(alloc, aut, formula, observer) {
+    match read_all(alloc, hasher, aut, formula, &Silent) {
         Ok(reading) => Ok(texts_of(reading)),
         Err(error) => Err(error),
     }
 }
 
-/// Reads both as `read_both_seen` does. Where it is strict, it looks for a word of the formula that is on no transition.
+/// Reads both as `read_both` does, and tells a watcher that the system is read, that the formula is, and what both are. Where it is strict, it
+/// looks for a word of the formula that is on no transition.
 ///
 /// # Errors
 /// Those of `read_both`; L1 with the place of such a word, where it is strict.
-pub fn read_asked<R: Source + Drop, S: Source + Drop, O: Watcher>(
+pub fn read_asked<L: BuildHasher + Drop, R: Source + Drop, S: Source + Drop, O: Watcher>(
     alloc: Global,
+    hasher: L,
     aut: R,
     formula: S,
     strict: bool,
@@ -111,7 +95,7 @@ pub fn read_asked<R: Source + Drop, S: Source + Drop, O: Watcher>(
         → (way : Way) (writers : List Lent) → AreKept writers → IfErr result (HasRefusedBy strict way first second writers) }
     ensures cause { IfErr result (HaveCauses R.can_fail S.can_fail) }
 {
-    match read_all(alloc, aut, formula, observer) {
+    match read_all(alloc, hasher, aut, formula, observer) {
         Ok(reading) => {
             if strict {
                 strictly(alloc, reading)
@@ -169,8 +153,9 @@ fn texts_of(reading: Reading) -> Texts
 }
 
 /// Reads the system and then the formula, and keeps the formula's text.
-fn read_all<R: Source + Drop, S: Source + Drop, O: Watcher>(
+fn read_all<L: BuildHasher + Drop, R: Source + Drop, S: Source + Drop, O: Watcher>(
     alloc: Global,
+    hasher: L,
     aut: R,
     formula: S,
     observer: &O,
@@ -185,7 +170,7 @@ fn read_all<R: Source + Drop, S: Source + Drop, O: Watcher>(
     ensures cause { IfErr result (HaveCauses R.can_fail S.can_fail) }
 {
     observer.sees(Stage::ReadingSystem);
-    let system = read_aut(alloc, aut).map_err(MuError::System)?;
+    let system = read_aut(alloc, hasher, aut).map_err(MuError::System)?;
     observer.sees(Stage::ReadingFormula);
     let spelled = read_spelled(alloc, formula)?;
     observer.has_read(&system, &spelled.formula);
@@ -261,7 +246,7 @@ pub fn read_front<S: Source + Drop>(alloc: Global, reader: S) -> Result<Vec<u8>,
     let mut front = Noted::new(reader).take(FORMULA_BYTES);
     match front.read_to_end(&mut text) {
         Ok(_) => Ok(text),
-        Err(error) => match front.get_ref().fault_of(&error) {
+        Err(_) => match front.get_ref().fault() {
             ReadFault::Read => Err(MuError::Read),
             ReadFault::Memory => Err(MuError::Memory),
         },

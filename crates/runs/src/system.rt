@@ -1,6 +1,6 @@
 // The system that a table is of.
 
-use console::input::{CountedInput, open};
+use console::input::{CountedInput, label_hasher, open};
 use console::line::ProgressLine;
 use console::refusal::Refusal;
 use console::stats::Stats;
@@ -22,10 +22,11 @@ pub fn read_system<T: Threads + Wait + Clock + Clone + Copy + Drop + Send + Sync
     name: &str,
 ) -> Result<Lts, Refusal> {
     let system = open(rt, name)?;
+    let hasher = label_hasher(rt)?;
     let line = ProgressLine::new(*rt, threads, Stats::Nothing, None);
     let ticker = line.start();
     line.sees(Stage::ReadingSystem);
-    let read = read_aut(rt.alloc(), CountedInput::new(system, &line));
+    let read = read_aut(rt.alloc(), hasher, CountedInput::new(system, &line));
     line.finish(ticker);
     drop(line);
     Ok(read.map_err(MuError::System)?)

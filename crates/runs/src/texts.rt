@@ -3,7 +3,7 @@
 use commands::normal_text::normal_asked;
 use commands::replay_text::replay_asked;
 use commands::verify_text::{verify_both_text, verify_text};
-use console::input::open;
+use console::input::{label_hasher, open};
 use console::refusal::Refusal;
 use requests::request::{Normalize, Replay, Verify};
 use std::io;
@@ -50,6 +50,16 @@ pub fn run_replay<T: Threads + Sync>(
     let system = open(rt, request.system)?;
     let formula = open(rt, request.formula)?;
     let schedule = open(rt, request.schedule)?;
+    let hasher = label_hasher(rt)?;
     let out = &mut io::writer(rt);
-    Ok(replay_asked(threads, rt.alloc(), request, system, formula, schedule, out)?)
+    Ok(replay_asked(
+        threads,
+        rt.alloc(),
+        request,
+        hasher,
+        system,
+        formula,
+        schedule,
+        out,
+    )?)
 }

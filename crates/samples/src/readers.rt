@@ -44,3 +44,13 @@ impl Read for Halting<'_> {
         Ok(count)
     }
 }
+
+/// A reader whose every read fails as one for want of memory does.
+#[derive(Drop)]
+pub struct Wanting;
+
+impl Read for Wanting {
+    fn read(&mut self, _buf: &mut [u8]) -> io::Result<usize> {
+        Err(io::Error::from(io::ErrorKind::OutOfMemory))
+    }
+}

@@ -7,6 +7,7 @@ use formula::parse;
 use lts::{AutError, Lts, read_aut};
 use normal::make::normal;
 use std::alloc::{AllocError, Global};
+use std::hash::{BuildHasherDefault, FoldHasher};
 
 /// From its first state to its second by `a`, and back by `b`.
 pub const RING: &str = "des (0,2,2)\n(0,\"a\",1)\n(1,\"b\",0)\n";
@@ -38,8 +39,13 @@ pub fn ring(alloc: Global, states: usize) -> Result<String, AllocError> {
     Ok(text)
 }
 
+/// What tells labels apart in the same way in each run.
+pub fn unseeded() -> BuildHasherDefault<FoldHasher> {
+    BuildHasherDefault::new()
+}
+
 pub fn system_read(alloc: Global, text: &str) -> Result<Lts, AutError> {
-    read_aut(alloc, text.as_bytes())
+    read_aut(alloc, unseeded(), text.as_bytes())
 }
 
 pub fn parsed_formula(alloc: Global, text: &str) -> Result<Closed, FormulaError> {

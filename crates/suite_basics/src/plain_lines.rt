@@ -5,7 +5,7 @@
 use crate::common::{repeated, same, slow};
 use lts::{Lts, read_aut, write_aut};
 use samples::dice::Dice;
-use samples::texts::ring;
+use samples::texts::{ring, unseeded};
 use std::alloc::{AllocError, Global};
 use std::process::Abort;
 
@@ -20,7 +20,7 @@ fn text_of(alloc: Global, lts: &Lts) -> Result<String, AllocError> {
 
 // The canonical text of the system, or the refusal.
 fn told(rt: &(impl Abort + AllocGlobal), text: &[u8], step: usize) -> String {
-    let told = match read_aut(rt.alloc(), slow(text, step)) {
+    let told = match read_aut(rt.alloc(), unseeded(), slow(text, step)) {
         Ok(lts) => {
             let text = text_of(rt.alloc(), &lts);
             drop(lts);

@@ -4,14 +4,14 @@
 use crate::common::{failing, holds, is_either, same, slow, system};
 use lts::{Lts, Transition, read_aut};
 use samples::readers::Halting;
-use samples::texts::RING;
+use samples::texts::{RING, unseeded};
 use std::alloc::{AllocError, Global};
 use std::io::Read;
 use std::process::Abort;
 
 // The states, the initial state, the transitions and the labels, or the refusal.
 fn shown<R: Read + Drop>(alloc: Global, reader: R) -> Result<String, AllocError> {
-    match read_aut(alloc, reader) {
+    match read_aut(alloc, unseeded(), reader) {
         Ok(lts) => {
             let counts = counts(alloc, &lts);
             drop(lts);

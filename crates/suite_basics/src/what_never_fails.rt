@@ -7,6 +7,7 @@ use crate::common::holds;
 use lts::error::AutError;
 use lts::reader::read_aut;
 use lts::system::Lts;
+use samples::texts::unseeded;
 use std::alloc::Global;
 use std::io;
 use text::sink::Sink;
@@ -51,7 +52,7 @@ impl Sink for Taking {
 fn read(alloc: Global, text: &[u8]) -> Result<Lts, AutError>
     ensures { IfErr result (λ e. e ≢ errors.Read) }
 {
-    read_aut(alloc, Sure { left: text })
+    read_aut(alloc, unseeded(), Sure { left: text })
 }
 
 fn write(out: &mut Taking, text: &[u8]) -> Result<(), WriteFault>

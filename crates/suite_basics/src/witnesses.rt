@@ -23,7 +23,7 @@ use meaning::plain::plain_states;
 use measures::settle::solve_one;
 use measures::table::Settled;
 use samples::dice::Dice;
-use samples::texts::RING;
+use samples::texts::{RING, unseeded};
 use samples::writers::{AMPLE, AtEnd, Narrow};
 use std::process::Abort;
 use std::thread::Threads;
@@ -156,7 +156,7 @@ fn written(rt: &(impl Abort + AllocGlobal), system: &Lts, part: &[Transition]) -
 }
 
 fn read(rt: &(impl Abort + AllocGlobal), bytes: &[u8]) -> Lts {
-    read_aut(rt.alloc(), bytes).expect(rt, "a system")
+    read_aut(rt.alloc(), unseeded(), bytes).expect(rt, "a system")
 }
 
 // The states where a formula holds.

@@ -6,7 +6,7 @@ use commands::replay_text::{replay_asked, replay_text};
 use requests::error::MuError;
 use requests::request::Replay;
 use samples::readers::Slow;
-use samples::texts::RING;
+use samples::texts::{RING, unseeded};
 use samples::writers::{AMPLE, Narrow};
 use std::io::Write;
 use std::process::Abort;
@@ -33,7 +33,16 @@ fn run<W: Write, H: Threads + Sync + AllocGlobal>(
         workers,
     };
     let (system, formula) = (RING.as_bytes(), formula.as_bytes());
-    replay_asked(rt, rt.alloc(), &request, system, formula, schedule, out)
+    replay_asked(
+        rt,
+        rt.alloc(),
+        &request,
+        unseeded(),
+        system,
+        formula,
+        schedule,
+        out,
+    )
 }
 
 /// The command writes this, and answers so.
@@ -108,7 +117,16 @@ fn replays_write_what_was_worked_out(rt: HostRuntime) {
 fn writes_of_no_event<H: Abort + Threads + Sync + AllocGlobal>(rt: &H) {
     let mut out = Vec::new(rt.alloc());
     let (system, formula) = (RING.as_bytes(), b"<a>true".as_slice());
-    let answer = replay_text(rt, rt.alloc(), system, formula, b"".as_slice(), 2, &mut out);
+    let answer = replay_text(
+        rt,
+        rt.alloc(),
+        unseeded(),
+        system,
+        formula,
+        b"".as_slice(),
+        2,
+        &mut out,
+    );
     answers(rt, NO_EVENT, &answer, "yes");
     holds(rt, NO_EVENT, out.as_slice() == NO_EVENT.as_bytes());
 }
@@ -128,7 +146,16 @@ fn is_unread<H: Abort + Threads + Sync + AllocGlobal>(rt: &H, given: usize) {
     let mut out = Vec::new(rt.alloc());
     let (system, formula) = (RING.as_bytes(), b"<a>true".as_slice());
     let schedule = failing_schedule(given);
-    let answer = replay_text(rt, rt.alloc(), system, formula, schedule, 2, &mut out);
+    let answer = replay_text(
+        rt,
+        rt.alloc(),
+        unseeded(),
+        system,
+        formula,
+        schedule,
+        2,
+        &mut out,
+    );
     holds(
         rt,
         LATE,

@@ -7,7 +7,7 @@ use engines::error::MuError;
 use engines::request::{BoardKind, Options};
 use forms::priorities::Priorities;
 use lts::{Lts, read_aut};
-use samples::texts::{repeated_text, ring};
+use samples::texts::{repeated_text, ring, unseeded};
 use samples::writers::{AMPLE, Narrow};
 use std::process::Abort;
 
@@ -86,7 +86,7 @@ pub(crate) fn ample(rt: &impl AllocGlobal, step: usize) -> Narrow {
 
 /// The system of the text.
 pub(crate) fn system_of(rt: &(impl Abort + AllocGlobal), text: &str) -> Lts {
-    read_aut(rt.alloc(), text.as_bytes()).expect(rt, "a system")
+    read_aut(rt.alloc(), unseeded(), text.as_bytes()).expect(rt, "a system")
 }
 
 /// The text of a ring of so many states.

@@ -8,7 +8,7 @@ use engines::status::status;
 use engines::writers::EvidenceWriters;
 use fixtures::answers::answer_text;
 use forms::priorities::Priorities;
-use samples::texts::RING;
+use samples::texts::{RING, unseeded};
 use samples::writers::Narrow;
 use std::alloc::{AllocError, Global};
 use std::io;
@@ -45,7 +45,17 @@ fn run_game<
 >(rt: &R, system: &[u8], formula: &[u8], options: &Options, out: &mut W) -> Result<bool, MuError> {
     let no_game: Option<&mut Vec<u8>> = None;
     let none: EvidenceWriters<'_, Vec<u8>, Vec<u8>> = EvidenceWriters::Neither;
-    check(rt, rt.alloc(), system, formula, options, out, no_game, none)
+    check(
+        rt,
+        rt.alloc(),
+        unseeded(),
+        system,
+        formula,
+        options,
+        out,
+        no_game,
+        none,
+    )
 }
 
 /// By a game on one thread.
@@ -58,6 +68,7 @@ fn run_one<
     check_one(
         rt,
         rt.alloc(),
+        unseeded(),
         system,
         formula,
         &DEFAULTS,
@@ -77,7 +88,7 @@ fn run<W: io::Write, R: Abort + AllocGlobal + Threads + Wait + Clone + Copy + Dr
     let system = system.as_bytes();
     let formula = formula.as_bytes();
     match engine {
-        Engine::Plain => check_plain(rt.alloc(), system, formula, out),
+        Engine::Plain => check_plain(rt.alloc(), unseeded(), system, formula, out),
         Engine::One => run_one(rt, system, formula, out),
         Engine::Game => run_game(rt, system, formula, &DEFAULTS, out),
         Engine::Two => run_game(rt, system, formula, &BY_TWO, out),

@@ -5,8 +5,8 @@ use crate::engine_reports::refuses_as;
 use engines::engine::check_plain;
 use engines::error::MuError;
 use lts::put;
-use samples::readers::{Halting, Slow};
-use samples::texts::RING;
+use samples::readers::{Halting, Slow, Wanting};
+use samples::texts::{RING, unseeded};
 use samples::writers::{AtEnd, Narrow};
 use std::alloc::{AllocError, Global};
 use std::io::Read;
@@ -41,13 +41,18 @@ fn refusal<R: Read + Drop, S: Read + Drop>(
     formula: S,
 ) -> String {
     let mut out = Vec::new(rt.alloc());
-    let answer = check_plain(rt.alloc(), aut, formula, &mut out);
+    let answer = check_plain(rt.alloc(), unseeded(), aut, formula, &mut out);
     holds!(rt; out.is_empty());
     told(rt.alloc(), &answer).expect(rt, "memory")
 }
 
 /// These texts, of which one fails to be read, are refused so.
-fn is_refused(rt: &(impl Abort + AllocGlobal), aut: Slow<'_>, formula: Slow<'_>, wanted: &str) {
+fn is_refused<R: Read + Drop, S: Read + Drop>(
+    rt: &(impl Abort + AllocGlobal),
+    aut: R,
+    formula: S,
+    wanted: &str,
+) {
     let found = refusal(rt, aut, formula);
     same(rt, "code", found.as_str(), wanted);
 }
@@ -59,6 +64,12 @@ fn a_failed_read_has_the_code_of_its_text(rt: HostRuntime) {
     is_refused(&rt, slow(RING, true), slow(FORMULA, true), "A8");
 }
 
+#[test]
+fn a_failed_read_is_told_whatever_its_kind(rt: HostRuntime) {
+    is_refused(&rt, Wanting, slow(FORMULA, false), "A8");
+    is_refused(&rt, slow(RING, false), Wanting, "U3");
+}
+
 /// The whole report is written, to such a writer.
 fn is_whole<R: Read + Drop, S: Read + Drop>(
     rt: &(impl Abort + AllocGlobal),
@@ -66,7 +77,7 @@ fn is_whole<R: Read + Drop, S: Read + Drop>(
     formula: S,
     out: &mut Narrow,
 ) {
-    let answer = check_plain(rt.alloc(), aut, formula, out);
+    let answer = check_plain(rt.alloc(), unseeded(), aut, formula, out);
     says(rt, "the check", &answer, true);
     is_text(rt, out.taken.as_slice(), REPORT);
 }
@@ -96,7 +107,13 @@ fn texts_may_come_a_few_bytes_at_a_time(rt: HostRuntime) {
 fn is_cut(rt: &(impl Abort + AllocGlobal), room: usize) {
     let mut out = Narrow::new(rt.alloc(), 7, room);
     out.at_end = AtEnd::TakesNothing;
-    let answer = check_plain(rt.alloc(), RING.as_bytes(), FORMULA.as_bytes(), &mut out);
+    let answer = check_plain(
+        rt.alloc(),
+        unseeded(),
+        RING.as_bytes(),
+        FORMULA.as_bytes(),
+        &mut out,
+    );
     refuses_as(rt, &answer, "W1");
     holds!(rt; out.taken.len() == room);
 }

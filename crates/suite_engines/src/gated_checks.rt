@@ -10,7 +10,7 @@ use engines::writers::EvidenceWriters;
 use fixtures::meeting::Meeting;
 use fixtures::texts::{EVEN_OF_OFTEN_A, ODD_OF_OFTEN_A, OFTEN_A};
 use forms::priorities::Priorities;
-use samples::texts::RING;
+use samples::texts::{RING, unseeded};
 use std::alloc::Global;
 use std::process::Abort;
 use std::sync::Wait;
@@ -48,6 +48,7 @@ fn checked<R: Abort + AllocGlobal + Threads + Wait + Clone + Copy + Drop + Send 
     check(
         rt,
         rt.alloc(),
+        unseeded(),
         system,
         formula,
         options,
@@ -153,6 +154,7 @@ fn check_all<R: Abort + AllocGlobal + Threads + Wait + Clone + Copy + Drop + Sen
     check_gated(
         rt,
         rt.alloc(),
+        unseeded(),
         system,
         formula,
         options,

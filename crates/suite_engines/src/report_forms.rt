@@ -5,6 +5,7 @@ use crate::unwritten::{Written, unwritten};
 use engines::engine::check_asked;
 use engines::request::{Check, ReportForm, Wanted};
 use measures::observer::Silent;
+use samples::texts::unseeded;
 use std::process::Abort;
 use std::sync::Wait;
 use std::thread::Threads;
@@ -64,6 +65,7 @@ fn answer<R: AllocGlobal + Threads + Wait + Clone + Copy + Drop + Send + Sync>(
         rt.alloc(),
         &request(plain),
         wanted,
+        unseeded(),
         SYSTEM.as_bytes(),
         FORMULA.as_bytes(),
         writers,

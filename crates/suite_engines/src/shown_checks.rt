@@ -7,7 +7,7 @@ use engines::request::{Check, ReportForm, Wanted, WitnessForm};
 use engines::writers::Writers;
 use fixtures::texts::{EVEN_OF_STEP, ODD_OF_STEP, STEP};
 use measures::observer::Silent;
-use samples::texts::RING;
+use samples::texts::{RING, unseeded};
 use samples::writers::{AMPLE, Narrow};
 use std::alloc::Global;
 use std::process::Abort;
@@ -108,6 +108,7 @@ fn run<R: Threads + Wait + Clone + Copy + Drop + Send + Sync>(
         alloc,
         &request(false),
         wanted,
+        unseeded(),
         row.system.as_bytes(),
         row.formula.as_bytes(),
         writers,
@@ -234,6 +235,7 @@ fn answer_by_sets<R: AllocGlobal + Threads + Wait + Clone + Copy + Drop + Send +
         rt.alloc(),
         &request(true),
         ALL,
+        unseeded(),
         row.system.as_bytes(),
         row.formula.as_bytes(),
         writers,

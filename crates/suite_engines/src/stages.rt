@@ -9,7 +9,7 @@ use engines::watch::Watcher;
 use gauge::{Gauge, Reading};
 use lts::Lts;
 use measures::observer::{Observer, Stage};
-use samples::texts::RING;
+use samples::texts::{RING, unseeded};
 use std::process::Abort;
 use std::sync::Wait;
 use std::sync::atomic::{AtomicU64, Ordering};
@@ -95,6 +95,7 @@ fn answer<R: AllocGlobal + Threads + Wait + Clone + Copy + Drop + Send + Sync>(
         rt.alloc(),
         &request(plain),
         wanted,
+        unseeded(),
         RING.as_bytes(),
         b"<a>true".as_slice(),
         writers,

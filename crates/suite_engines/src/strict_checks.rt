@@ -6,6 +6,7 @@ use engines::engine::check_asked;
 use engines::error::MuError;
 use engines::request::{Check, ReportForm, Wanted};
 use measures::observer::Silent;
+use samples::texts::unseeded;
 use std::alloc::{AllocError, Global};
 use std::process::Abort;
 use std::sync::Wait;
@@ -33,6 +34,7 @@ fn outcome<R: Threads + Wait + Clone + Copy + Drop + Send + Sync>(
         alloc,
         request,
         WANTED,
+        unseeded(),
         SYSTEM.as_bytes(),
         formula.as_bytes(),
         &mut writers,

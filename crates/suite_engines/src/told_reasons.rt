@@ -7,7 +7,7 @@ use engines::error::MuError;
 use engines::reasons::tell_why;
 use engines::request::Why;
 use measures::observer::Silent;
-use samples::texts::RING;
+use samples::texts::{RING, unseeded};
 use samples::writers::{AtEnd, Narrow};
 use std::process::Abort;
 use std::sync::Wait;
@@ -44,6 +44,7 @@ fn told_by<R: Abort + AllocGlobal + Threads + Wait + Clone + Copy + Drop + Send 
         rt,
         rt.alloc(),
         request,
+        unseeded(),
         system.as_bytes(),
         formula.as_bytes(),
         out,

@@ -10,7 +10,7 @@ use fixtures::texts::{
     OFTEN_A, STAY, STEP,
 };
 use forms::priorities::Priorities;
-use samples::texts::RING;
+use samples::texts::{RING, unseeded};
 use samples::writers::{AMPLE, Narrow};
 use std::alloc::Global;
 use std::process::Abort;
@@ -119,6 +119,7 @@ fn run<R: Threads + Wait + Clone + Copy + Drop + Send + Sync>(
         check_one(
             rt,
             alloc,
+            unseeded(),
             system,
             formula,
             &options,
@@ -130,6 +131,7 @@ fn run<R: Threads + Wait + Clone + Copy + Drop + Send + Sync>(
         check(
             rt,
             alloc,
+            unseeded(),
             system,
             formula,
             &options,
@@ -285,6 +287,7 @@ fn run_game<R: Abort + AllocGlobal + Threads + Wait + Clone + Copy + Drop + Send
     check(
         rt,
         rt.alloc(),
+        unseeded(),
         system,
         formula,
         &options,

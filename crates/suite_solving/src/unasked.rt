@@ -22,7 +22,7 @@ use measures::table::PlainTable;
 use pgsolver::{read_game, write_game};
 use samples::games::shared_arena_of;
 use samples::readers::Slow;
-use samples::texts::{RING, repeated_text, ring, system_read};
+use samples::texts::{RING, repeated_text, ring, system_read, unseeded};
 use std::alloc::Global;
 use std::marker::Brand;
 use std::process::Abort;
@@ -213,7 +213,7 @@ fn is_read(rt: &(impl Abort + AllocGlobal), text: &str, step: usize) {
         step,
         fails: false,
     };
-    let system = read_aut(rt.alloc(), reader).expect(rt, "a system");
+    let system = read_aut(rt.alloc(), unseeded(), reader).expect(rt, "a system");
     holds!(rt; system.states() == 2 && system.all().len() == 1);
 }
 

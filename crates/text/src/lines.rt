@@ -7,7 +7,7 @@ ghost use Rattle.text.specs.Text.{without_end};
 ghost use Rattle.text.specs.Lines.{TakesLine, TakesPiece};
 
 use crate::error::ReadFault;
-use crate::source::{Blocks, fault_of};
+use crate::source::Blocks;
 
 // Takes the byte off the end, if it stands there.
 fn cut_end(line: &mut Vec<u8>, byte: u8)
@@ -35,7 +35,7 @@ pub fn next_piece<B: Blocks>(reader: &mut B, line: &mut Vec<u8>) -> Result<bool,
             cut_end(line, b'\n');
             Ok(true)
         }
-        Err(error) => Err(fault_of(reader, &error)),
+        Err(_) => Err(reader.fault()),
     }
 }
 

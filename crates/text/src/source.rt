@@ -9,7 +9,7 @@ ghost use Rattle.text.specs.declared.error.ReadFault.TheVariants.{Read};
 use crate::error::{Memory, ReadFault};
 use std::alloc::Global;
 use std::io;
-use std::io::{BufRead, BufReader, Error, ErrorKind, Read};
+use std::io::{BufRead, BufReader, Read};
 
 /// What bytes are read from: each reader of std, and whatever else gives bytes.
 ///
@@ -42,7 +42,7 @@ impl<R: Read> Source for R {
     }
 }
 
-/// A source, and whether a read of it has failed.
+/// A source, and whether the last read of it failed.
 #[derive(Drop)]
 pub struct Noted<S: Source> {
     source: S,
@@ -51,7 +51,7 @@ pub struct Noted<S: Source> {
 }
 
 impl<S: Source> Noted<S> {
-    /// A source of which no read has failed yet.
+    /// A source that wasn't read yet.
     pub fn new(source: S) -> Self
         ensures { result.source ≡ source }
     {
@@ -61,11 +61,11 @@ impl<S: Source> Noted<S> {
         }
     }
 
-    /// Why this error came of it.
-    pub fn fault_of(&self, error: &Error) -> ReadFault
+    /// Why reading comes to no end: the last read failed, or a growth was refused after it.
+    pub fn fault(&self) -> ReadFault
         ensures { HasCause S.can_fail Read result }
     {
-        if self.has_failed && error.kind() != ErrorKind::OutOfMemory {
+        if self.has_failed {
             ReadFault::Read
         } else {
             ReadFault::Memory
@@ -78,28 +78,27 @@ impl<S: Source> Read for Noted<S> {
 
     fn read(&mut self, buf: &mut [u8]) -> io::Result<usize> {
         let read = self.source.read_some(buf);
-        if read.is_err() {
-            self.has_failed = true;
-        }
+        self.has_failed = read.is_err();
         read
     }
 }
 
-/// What is read from block by block, and knows whether a read has failed.
+/// What is read from block by block, and tells why reads came to no end.
 pub trait Blocks: BufRead {
     /// Whether a read of blocks of this kind can fail.
     ghost can_fail: { Bool };
 
-    /// Whether a read has failed.
-    fn has_failed(&self) -> bool
-        ensures { IsTrue result → IsTrue can_fail };
+    /// Why a read gave no block, or reads came to no end in 2^64 turns: the last one failed, or there are more bytes than any memory holds, which is
+    /// told as want of it.
+    fn fault(&self) -> ReadFault
+        ensures { HasCause can_fail Read result };
 }
 
 impl<S: Source> Blocks for BufReader<Noted<S>> {
     ghost can_fail = { S.can_fail };
 
-    fn has_failed(&self) -> bool {
-        self.get_ref().has_failed
+    fn fault(&self) -> ReadFault {
+        self.get_ref().fault()
     }
 }
 
@@ -113,27 +112,5 @@ pub fn blocks_of<S: Source + Drop>(alloc: Global, source: S) -> Result<BufReader
     match BufReader::new(alloc, Noted::new(source)) {
         Ok(blocks) => Ok(blocks),
         Err(_) => Err(Memory),
-    }
-}
-
-/// Why a read of blocks gave none.
-pub fn fault_of<B: Blocks>(blocks: &B, error: &Error) -> ReadFault
-    ensures { HasCause B.can_fail Read result }
-{
-    if error.kind() == ErrorKind::OutOfMemory {
-        ReadFault::Memory
-    } else {
-        fault_after(blocks)
-    }
-}
-
-/// Why reads of blocks came to no end in 2^64 turns: one has failed, or there are more bytes than any memory holds, which is told as want of it.
-pub fn fault_after<B: Blocks>(blocks: &B) -> ReadFault
-    ensures { HasCause B.can_fail Read result }
-{
-    if blocks.has_failed() {
-        ReadFault::Read
-    } else {
-        ReadFault::Memory
     }
 }

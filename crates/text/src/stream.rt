@@ -13,7 +13,7 @@ ghost use Rattle.text.specs.Stream.{is_of, is_inside, Shows, Takes, TakesAll, Ru
 use crate::bytes::{is_blank, is_digit};
 use crate::error::ReadFault;
 use crate::scan::whole_number;
-use crate::source::{Blocks, fault_after, fault_of};
+use crate::source::Blocks;
 use std::io::ErrorKind;
 
 // With so many digits a number without zeros in front is too great for its type.
@@ -53,10 +53,10 @@ pub fn look<B: Blocks>(reader: &mut B) -> Result<Option<u8>, ReadFault>
         match reader.fill_buf() {
             Ok(block) => return Ok(block.first().copied()),
             Err(error) if error.kind() == ErrorKind::Interrupted => {}
-            Err(error) => return Err(fault_of(reader, &error)),
+            Err(_) => return Err(reader.fault()),
         }
     }
-    Err(fault_after(reader))
+    Err(reader.fault())
 }
 
 // Takes the byte if it is next, and says whether it was.
@@ -107,7 +107,7 @@ fn run_on<B: Blocks>(
     let block = match reader.fill_buf() {
         Ok(block) => block,
         Err(error) if error.kind() == ErrorKind::Interrupted => return Ok(false),
-        Err(error) => return Err(fault_of(reader, &error)),
+        Err(_) => return Err(reader.fault()),
     };
     let count = count_of(class, block);
     let ended = is_all(count, block.len());
@@ -132,7 +132,7 @@ fn run<B: Blocks>(
             return Ok(());
         }
     }
-    Err(fault_after(reader))
+    Err(reader.fault())
 }
 
 // Takes the blanks in front, and looks at the byte that is next then.
@@ -147,7 +147,7 @@ fn skip_blanks<B: Blocks>(reader: &mut B) -> Result<Option<u8>, ReadFault>
             next => return Ok(next),
         }
     }
-    Err(fault_after(reader))
+    Err(reader.fault())
 }
 
 /// Takes the sign past the blanks, and says whether it was there.

@@ -33,6 +33,7 @@ use requests::solver::{lift_seen, require_board, solve_seen};
 use requests::texts::{Texts, read_both};
 use requests::watch::Watcher;
 use std::alloc::Global;
+use std::hash::BuildHasher;
 use std::sync::{Arc, Wait};
 use std::thread::Threads;
 use text::Memory;
@@ -62,9 +63,10 @@ pub struct Posed {
 /// # Errors
 /// Those of the readers, of the normal form and of the game, unchanged; U3 where a read of the formula failed, U4 for memory
 /// in the engine.
-pub fn find_alone<R: Source + Drop, S: Source + Drop, H: Threads + Sync>(
+pub fn find_alone<L: BuildHasher + Drop, R: Source + Drop, S: Source + Drop, H: Threads + Sync>(
     rt: &H,
     alloc: Global,
+    hasher: L,
     aut: R,
     formula: S,
     priorities: Priorities,
@@ -77,7 +79,7 @@ pub fn find_alone<R: Source + Drop, S: Source + Drop, H: Threads + Sync>(
         → (writers : List Lent) → AreKept writers → IfErr result (RefusesCheck (ByGame priorities None) first second writers) }
     ensures cause { IfErr result (HaveCauses R.can_fail S.can_fail) }
 {
-    match read_and_build(rt, alloc, aut, formula, priorities) {
+    match read_and_build(rt, alloc, hasher, aut, formula, priorities) {
         Ok(posed) => find_by_one(alloc, posed),
         Err(error) => Err(error),
     }
@@ -89,6 +91,7 @@ pub fn find_alone<R: Source + Drop, S: Source + Drop, H: Threads + Sync>(
 /// # Errors
 /// Those of `find_alone`, and those of the board and of the workers' table: T1 where the packed board can't be had, and only there.
 pub fn find_with<
+    L: BuildHasher + Drop,
     R: Source + Drop,
     S: Source + Drop,
     T: Gate + Sync,
@@ -96,6 +99,7 @@ pub fn find_with<
 >(
     rt: &H,
     alloc: Global,
+    hasher: L,
     aut: R,
     formula: S,
     options: &Options,
@@ -109,7 +113,7 @@ pub fn find_with<
         → (writers : List Lent) → AreKept writers → IfErr result (RefusesCheck (ByGame options.now.priorities (Some options.now.board)) first second writers) }
     ensures cause { IfErr result (HaveCauses R.can_fail S.can_fail) }
 {
-    match read_and_build(rt, alloc, aut, formula, options.priorities) {
+    match read_and_build(rt, alloc, hasher, aut, formula, options.priorities) {
         Ok(posed) => find_by_workers(rt, alloc, posed, options, gate),
         Err(error) => Err(error),
     }
@@ -165,9 +169,10 @@ fn find_boxed<O: Watcher + Sync, H: Threads + Wait + Clone + Copy + Drop + Send 
 }
 
 /// Reads both texts, and makes their game.
-fn read_and_build<R: Source + Drop, S: Source + Drop, H: Threads + Sync>(
+fn read_and_build<L: BuildHasher + Drop, R: Source + Drop, S: Source + Drop, H: Threads + Sync>(
     rt: &H,
     alloc: Global,
+    hasher: L,
     aut: R,
     formula: S,
     priorities: Priorities,
@@ -180,7 +185,7 @@ fn read_and_build<R: Source + Drop, S: Source + Drop, H: Threads + Sync>(
         → (board : Option BoardKind) (writers : List Lent) → AreKept writers → IfErr result (RefusesCheck (ByGame priorities board) first second writers) }
     ensures cause { IfErr result (HaveCauses R.can_fail S.can_fail) }
 {
-    match read_both(alloc, aut, formula) {
+    match read_both(alloc, hasher, aut, formula) {
         Ok(texts) => match boxed(alloc, texts) {
             Ok(texts) => build_of(rt, alloc, texts, priorities, &Silent),
             Err(Memory) => Err(MuError::Memory),

@@ -2,7 +2,7 @@ use Rattle.std.proofs.Common.{subst, sym}
 use Rattle.calculus.specs.Closed.{closed_formula}
 use Rattle.requests.specs.declared.texts.Texts.{Texts}
 use Rattle.requests.specs.Check.{AreSpelled}
-use Rattle.requests.proofs.texts.read_both_seen.Goals as goal
+use Rattle.requests.proofs.texts.read_both.Goals as goal
 
 pub returns-in-Ok-clause-spelled : goal.returns-in-Ok-clause-spelled
 returns-in-Ok-clause-spelled g c = λ first second known also.
