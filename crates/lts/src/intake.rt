@@ -40,7 +40,7 @@ fn number_of<S: BuildHasher>(
     Ok(number as u32)
 }
 
-// The same number, which is looked for among those that came lately first.
+// The number of the label, which is looked for among those that came lately before it is among all.
 fn lately_or_of<S: BuildHasher>(
     alloc: Global,
     labels: &mut IndexSet<Vec<u8>, S>,
