@@ -118,13 +118,13 @@ def game_text(system, formula, rule):
             yield f'{2 + state * len(nodes) + at} {priorities[at]} {owner} {",".join(map(str, successors or [sink]))} "{state},{at}";'
 
 
-def main():
+def main(words):
     sys.setrecursionlimit(100_000)
     asked = argparse.ArgumentParser()
     asked.add_argument("system", type=Path)
     asked.add_argument("formula", type=Path)
     asked.add_argument("--priorities", choices=["nested", "dependent"], default="nested")
-    asked = asked.parse_args()
+    asked = asked.parse_args(words)
     try:
         system, formula = read_system(asked.system.read_bytes()), read_formula(asked.formula.read_bytes())
         for line in game_text(system, formula, asked.priorities):
@@ -136,4 +136,4 @@ def main():
 
 
 if __name__ == "__main__":
-    sys.exit(main())
+    sys.exit(main(sys.argv[1:]))
