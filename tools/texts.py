@@ -205,5 +205,5 @@ def holds(action, label):
         return (label if kind == "quoted" else names_of(label)) == parts[0]
     if kind in ("true", "false", "tau"):
         return kind == "true" or kind == "tau" and label == b"tau"
-    left, right = holds(parts[0], label), holds(parts[-1], label)
-    return {"not": not left, "and": left and right, "or": left or right, "implies": not left or right}[kind]
+    left, *right = [holds(part, label) for part in parts]
+    return not left if kind == "not" else {"and": left and right[0], "or": left or right[0], "implies": not left or right[0]}[kind]
