@@ -18,28 +18,36 @@ pub(crate) enum State {
     Settled,
 }
 
-/// A vertex. A search comes to it at random and wants most of this, so it stands together, in 12 bytes.
+/// A vertex. A search comes to it at random, mostly for this alone, so it has 4 bytes.
 #[derive(Clone, Copy)]
 pub(crate) struct Cell {
+    pub(crate) priority: u8,
+    pub(crate) owner: Player,
+    /// Who is thought to win.
+    pub(crate) winner: Player,
+    pub(crate) state: State,
+}
+
+/// Why a vertex is won.
+#[derive(Clone, Copy)]
+pub(crate) struct Reason {
     /// Where its owner goes on, if it wins, or `NONE`. Of an open vertex some successor that is open too, or was, or `NONE`.
     pub(crate) next: u32,
     /// When it was settled.
     pub(crate) time: u32,
-    pub(crate) priority: u8,
-    pub(crate) owner: Player,
-    pub(crate) state: State,
-    /// Whether it stands in the list of calm vertices.
-    pub(crate) is_listed: bool,
 }
 
 /// What stands at a number that is no vertex.
 pub(crate) const NOWHERE: Cell = Cell {
-    next: NONE,
-    time: 0,
     priority: 0,
     owner: Player::Even,
+    winner: Player::Even,
     state: State::Settled,
-    is_listed: false,
+};
+
+pub(crate) const NO_REASON: Reason = Reason {
+    next: NONE,
+    time: 0,
 };
 
 /// All vertices, open.
@@ -47,12 +55,10 @@ pub(crate) fn open_cells(alloc: Global, game: &Game) -> List<Cell> {
     let mut cells = List::filled(alloc, game.vertices() as usize, NOWHERE);
     for v in 0..game.vertices() {
         let cell = Cell {
-            next: NONE,
-            time: 0,
             priority: game.priority(v),
             owner: game.owner(v),
+            winner: winner_by(game.priority(v)),
             state: State::Open,
-            is_listed: false,
         };
         cells.set(v as usize, cell);
     }
@@ -69,31 +75,18 @@ pub(crate) fn winner_by(priority: u8) -> Player {
 }
 
 impl Cell {
-    /// Who is thought to win.
-    pub(crate) fn winner(self) -> Player {
-        match self.state {
-            State::Open => winner_by(self.priority),
-            _ => self.winner_by_next(),
-        }
-    }
-
     /// Who wins where the owner goes on so, or can't win.
-    pub(crate) fn winner_by_next(self) -> Player {
+    pub(crate) fn winner_by_next(self, next: u32) -> Player {
         match self.owner {
-            _ if self.next != NONE => self.owner,
+            _ if next != NONE => self.owner,
             Player::Even => Player::Odd,
             Player::Odd => Player::Even,
         }
     }
 
-    /// Whether the vertex has its winner by way of this successor: by the move, or by all steps.
-    pub(crate) fn rests_on(self, t: u32) -> bool {
-        self.state != State::Open && (self.next == NONE || self.next == t)
-    }
-
     /// Whether its priority is the loser's.
     pub(crate) fn is_bad(self) -> bool {
-        self.winner() != winner_by(self.priority)
+        self.winner != winner_by(self.priority)
     }
 
     /// Whether the search goes by the winner, where open vertices of less than this priority are yet to be drawn.

@@ -1,6 +1,6 @@
 // A guess of who wins each vertex, with moves and what ranks are made of.
 
-use crate::cells::{Cell, NONE, NOWHERE, open_cells};
+use crate::cells::{Cell, NO_REASON, NONE, NOWHERE, Reason, open_cells};
 use crate::search::settle_all;
 use game::graph::Game;
 use game::player::Player;
@@ -12,32 +12,37 @@ use std::alloc::Global;
 #[derive(Drop)]
 pub struct Guess {
     cells: List<Cell>,
+    reasons: List<Reason>,
     // For each time one more than the priority of the vertex that was settled then, if it is bad in the end, and else 0.
     pub(crate) bad_at: List<u8>,
-}
-
-// Those of times up to the last one.
-fn bad_at(alloc: Global, cells: &List<Cell>, last: u32) -> List<u8> {
-    let mut bad_at = List::filled(alloc, last as usize + 1, 0);
-    for cell in cells.as_slice() {
-        if cell.is_bad() {
-            bad_at.set(cell.time as usize, cell.priority.saturating_add(1));
-        }
-    }
-    bad_at
 }
 
 impl Guess {
     /// Guesses who wins each vertex of a game. There is no guess where a budget of looks was spent, and a wrong one, if any, where memory was
     /// refused. A gauge shows how many of those looks there have been.
     pub fn of(alloc: Global, game: &Game, gauge: Option<&Gauge>) -> Option<Self> {
-        let mut cells = open_cells(alloc, game);
-        match settle_all(alloc, game, &mut cells, gauge) {
-            Some(last) => Some(Guess {
-                bad_at: bad_at(alloc, &cells, last),
-                cells,
-            }),
+        let mut guess = Guess {
+            cells: open_cells(alloc, game),
+            reasons: List::filled(alloc, game.vertices() as usize, NO_REASON),
+            bad_at: List::none(alloc),
+        };
+        match settle_all(alloc, game, &mut guess.cells, &mut guess.reasons, gauge) {
+            Some(last) => {
+                guess.bad_at = List::filled(alloc, last as usize + 1, 0);
+                guess.note_bad(game);
+                Some(guess)
+            }
             None => None,
+        }
+    }
+
+    fn note_bad(&mut self, game: &Game) {
+        for v in 0..game.vertices() {
+            let cell = self.cell(v);
+            if cell.is_bad() {
+                let time = self.reason(v).time as usize;
+                self.bad_at.set(time, cell.priority.saturating_add(1));
+            }
         }
     }
 
@@ -49,14 +54,18 @@ impl Guess {
         self.cells.get_or(v as usize, NOWHERE)
     }
 
+    pub(crate) fn reason(&self, v: u32) -> Reason {
+        self.reasons.get_or(v as usize, NO_REASON)
+    }
+
     /// Who wins the vertex.
     pub fn winner(&self, v: u32) -> Player {
-        self.cell(v).winner()
+        self.cell(v).winner
     }
 
     /// Where the winner goes on from a vertex of its own.
     pub fn next(&self, v: u32) -> Option<u32> {
-        match self.cell(v).next {
+        match self.reason(v).next {
             NONE => None,
             next => Some(next),
         }

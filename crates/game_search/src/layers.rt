@@ -21,29 +21,19 @@ impl Layers {
     }
 
     pub(crate) fn push(&mut self, priority: u8, v: u32) {
-        let place = usize::from(priority);
-        if place < self.lists.len() {
-            let _ = self.lists[place].push(v);
+        if let Some(list) = self.lists.get_mut(usize::from(priority)) {
+            let _ = list.push(v);
         }
     }
 
     /// Takes the last vertex of this priority away.
     pub(crate) fn pop(&mut self, priority: u8) -> Option<u32> {
-        let place = usize::from(priority);
-        if place < self.lists.len() {
-            self.lists[place].pop()
-        } else {
-            None
-        }
+        self.lists.get_mut(usize::from(priority))?.pop()
     }
 
     /// The vertex of this priority at this place.
     pub(crate) fn at(&self, priority: u8, place: usize) -> Option<u32> {
-        let list = usize::from(priority);
-        if list < self.lists.len() {
-            self.lists[list].get(place).copied()
-        } else {
-            None
-        }
+        let list = self.lists.get(usize::from(priority))?;
+        list.get(place).copied()
     }
 }

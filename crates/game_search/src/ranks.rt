@@ -81,8 +81,7 @@ impl Ranks<'_> {
 
     /// Writes the rank of a vertex that the player wins.
     pub fn put(&self, v: u32, rank: &mut [u32]) {
-        let cell = self.guess.cell(v);
-        let time = cell.time as usize;
+        let time = self.guess.reason(v).time as usize;
         let row = time.checked_div(self.step).unwrap_or(0);
         let from = row.saturating_mul(self.width);
         let counts = self.table.slice(from, from.saturating_add(self.width));
@@ -93,7 +92,7 @@ impl Ranks<'_> {
         for bad in self.guess.bad_at.slice(later, time + 1) {
             self.count(*bad, rank);
         }
-        let kept = self.kept(cell.priority).min(rank.len());
+        let kept = self.kept(self.guess.cell(v).priority).min(rank.len());
         rank[kept..].fill(0);
     }
 }

@@ -12,7 +12,7 @@
 //
 // At the end all is settled, and moves and winners fit.
 
-use crate::cells::{Cell, NONE, NOWHERE, State, winner_by};
+use crate::cells::{Cell, NO_REASON, NONE, NOWHERE, Reason, State, winner_by};
 use crate::layers::{Layers, PRIORITIES};
 use game::graph::Game;
 use game::player::Player;
@@ -43,6 +43,7 @@ struct Search<'g> {
     before: &'g Predecessors,
     gauge: Option<&'g Gauge>,
     cells: &'g mut List<Cell>,
+    reasons: &'g mut List<Reason>,
     // For each priority the open vertices, and others that were.
     open: Layers,
     // For each priority the calm vertices, and others that were.
@@ -62,6 +63,7 @@ pub(crate) fn settle_all(
     alloc: Global,
     game: &Game,
     cells: &mut List<Cell>,
+    reasons: &mut List<Reason>,
     gauge: Option<&Gauge>,
 ) -> Option<u32> {
     let Ok(before) = Predecessors::of(alloc, game) else {
@@ -72,6 +74,7 @@ pub(crate) fn settle_all(
         before: &before,
         gauge,
         cells,
+        reasons,
         open: Layers::none(alloc),
         calm: Layers::none(alloc),
         changed: List::none(alloc),
@@ -80,15 +83,6 @@ pub(crate) fn settle_all(
         looks: 0,
     };
     if search.run() { Some(search.now) } else { None }
-}
-
-// How many vertices and edges there are.
-fn size(game: &Game) -> u64 {
-    let mut size = u64::from(game.vertices());
-    for v in 0..game.vertices() {
-        size = size.saturating_add(game.successors(v).len() as u64);
-    }
-    size
 }
 
 // Where a vertex leads. A number that is no vertex leads nowhere.
@@ -103,13 +97,11 @@ fn successors(game: &Game, v: u32) -> &[u32] {
 impl Search<'_> {
     // Whether all was settled within the budget.
     fn run(&mut self) -> bool {
-        let budget = size(self.game)
-            .saturating_mul(TIMES)
-            .saturating_add(LEAST_BUDGET);
+        let size = self.open_all();
+        let budget = size.saturating_mul(TIMES).saturating_add(LEAST_BUDGET);
         if let Some(gauge) = self.gauge {
             gauge.begin(budget);
         }
-        self.open_all();
         self.draw(PRIORITIES);
         let mut p = 0_u8;
         for _ in 0..u64::MAX {
@@ -128,11 +120,15 @@ impl Search<'_> {
         p >= PRIORITIES
     }
 
-    fn open_all(&mut self) {
+    // Opens all vertices, and tells how many vertices and edges there are.
+    fn open_all(&mut self) -> u64 {
         let game = self.game;
+        let mut size = u64::from(game.vertices());
         for v in 0..game.vertices() {
             self.open.push(game.priority(v), v);
+            size = size.saturating_add(game.successors(v).len() as u64);
         }
+        size
     }
 
     fn cell(&self, v: u32) -> Cell {
@@ -141,6 +137,15 @@ impl Search<'_> {
 
     fn put(&mut self, v: u32, cell: Cell) {
         self.cells.set(v as usize, cell);
+    }
+
+    fn reason(&self, v: u32) -> Reason {
+        self.reasons.get_or(v as usize, NO_REASON)
+    }
+
+    fn go(&mut self, v: u32, next: u32) {
+        let time = self.now;
+        self.reasons.set(v as usize, Reason { next, time });
     }
 
     // Looks at the open vertices of this priority: their successors' winners calm or turn them.
@@ -154,33 +159,28 @@ impl Search<'_> {
         }
     }
 
-    fn look_at(&mut self, v: u32, mut cell: Cell) {
-        cell.next = self.choose(v, cell, 0);
-        if cell.winner_by_next() == cell.winner() {
-            self.set_calm(v, cell);
-        } else {
-            self.settle(v, cell);
-        }
-    }
-
     // What is calm isn't settled before all of its priority is, so what rests on it needn't fall when it is opened.
-    fn set_calm(&mut self, v: u32, mut cell: Cell) {
-        if !cell.is_listed {
-            self.calm.push(cell.priority, v);
+    fn look_at(&mut self, v: u32, mut cell: Cell) {
+        let next = self.choose(v, cell, 0);
+        if cell.winner_by_next(next) != cell.winner {
+            self.settle(v, cell, next);
+            return;
         }
+        self.calm.push(cell.priority, v);
         cell.state = State::Calm;
-        cell.is_listed = true;
         self.put(v, cell);
+        self.go(v, next);
     }
 
     // Settles a vertex by its move, at a time of its own if it is bad.
-    fn settle(&mut self, v: u32, mut cell: Cell) {
+    fn settle(&mut self, v: u32, mut cell: Cell, next: u32) {
         cell.state = State::Settled;
+        cell.winner = cell.winner_by_next(next);
         if cell.is_bad() {
             self.now = self.now.saturating_add(1);
         }
-        cell.time = self.now;
         self.put(v, cell);
+        self.go(v, next);
         self.changed.push(v);
     }
 
@@ -189,12 +189,11 @@ impl Search<'_> {
         for _ in 0..u64::MAX {
             let Some(v) = self.calm.pop(p) else { break };
             let mut cell = self.cell(v);
-            cell.is_listed = false;
             if cell.state == State::Calm {
                 cell.state = State::Settled;
-                cell.time = self.now;
+                self.put(v, cell);
+                self.go(v, self.reason(v).next);
             }
-            self.put(v, cell);
         }
     }
 
@@ -206,7 +205,7 @@ impl Search<'_> {
             let Some(v) = self.unsupported.pop() else {
                 break
             };
-            if self.cell(v).winner() == winner_by(p) {
+            if self.cell(v).winner == winner_by(p) {
                 self.unsettle(v);
             }
         }
@@ -237,32 +236,37 @@ impl Search<'_> {
         }
     }
 
+    // Whether a vertex has its winner by way of this successor: by the move, or by all steps.
+    fn rests_on(&self, u: u32, cell: Cell, t: u32) -> bool {
+        cell.state != State::Open && (cell.winner != cell.owner || self.reason(u).next == t)
+    }
+
     // Takes a vertex that led to what turned, if its winner has no other way, and its priority is no greater.
     fn take(&mut self, u: u32, turned: u32, p: u8) {
-        let mut cell = self.cell(u);
+        let cell = self.cell(u);
         let loser = winner_by(p);
-        if cell.winner() != loser || !cell.rests_on(turned) {
+        if cell.winner != loser || !self.rests_on(u, cell, turned) {
             return;
         }
         if cell.priority > p {
             self.unsupported.push(u);
             return;
         }
-        cell.next = if cell.owner == loser {
+        let next = if cell.owner == loser {
             self.choose(u, cell, 0)
         } else {
             turned
         };
-        if cell.winner_by_next() == loser {
-            self.put(u, cell);
+        if cell.winner_by_next(next) == loser {
+            self.go(u, next);
             self.unsupported.push(u);
         } else {
-            self.settle(u, cell);
+            self.settle(u, cell, next);
         }
     }
 
     fn fall(&mut self, u: u32, opened: u32) {
-        if self.cell(u).rests_on(opened) {
+        if self.rests_on(u, self.cell(u), opened) {
             self.unsettle(u);
         }
     }
@@ -275,6 +279,7 @@ impl Search<'_> {
             State::Settled => self.changed.push(v),
         }
         cell.state = State::Open;
+        cell.winner = winner_by(cell.priority);
         self.put(v, cell);
         self.open.push(cell.priority, v);
     }
@@ -303,26 +308,27 @@ impl Search<'_> {
 
     // Settles an open vertex of less than this priority, if its solid successors do. This one is solid now.
     fn join(&mut self, u: u32, drawn: u32, p: u8) {
-        let mut cell = self.cell(u);
+        let cell = self.cell(u);
         if cell.state != State::Open || cell.priority >= p {
             return;
         }
-        cell.next = if self.cell(drawn).winner() == cell.owner {
+        let next = if self.cell(drawn).winner == cell.owner {
             drawn
         } else {
             self.choose(u, cell, p)
         };
-        if cell.next == NONE || self.cell(cell.next).is_solid(p) {
-            self.settle(u, cell);
+        if next == NONE || self.cell(next).is_solid(p) {
+            self.settle(u, cell, next);
         } else {
-            self.put(u, cell);
+            self.go(u, next);
         }
     }
 
     // A solid successor that the owner wins, or else one that isn't solid, or `NONE`. Of priority 0 all are solid.
     fn choose(&mut self, u: u32, cell: Cell, p: u8) -> u32 {
-        if cell.next != NONE && !self.cell(cell.next).is_solid(p) {
-            return cell.next;
+        let hint = if p == 0 { NONE } else { self.reason(u).next };
+        if hint != NONE && !self.cell(hint).is_solid(p) {
+            return hint;
         }
         let row = successors(self.game, u);
         let length = row.len();
@@ -339,7 +345,7 @@ impl Search<'_> {
             let next = self.cell(t);
             if !next.is_solid(p) {
                 other = t;
-            } else if next.winner() == cell.owner {
+            } else if next.winner == cell.owner {
                 return t;
             }
             place = place.wrapping_add(step);

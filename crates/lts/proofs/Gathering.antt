@@ -1,12 +1,11 @@
 -- Labels that are added keep the arrows of the transitions so far.
-use Rattle.std.proofs.Common.{◌≡◌, ℕ, ◌<◌, List, [], ◌∷◌, ◌++◌, length, map, get_or, position, Some, is_some, true, true≢false, refl, sym, ap, ◌∙◌}
+use Rattle.std.proofs.Common.{◌≡◌, ℕ, ◌<◌, List, [], ◌∷◌, ◌++◌, length, map, get_or, true, refl, sym, ap, ◌∙◌}
 use Rattle.std.proofs.Common.{arith}
 use Rattle.std.specs.Prelude.{nat_eq}
 use Rattle.std.specs.List.{Contains, AllByRecursion}
 use Rattle.std.specs.Global.{Vec}
 use Rattle.std.specs.Cmp.Lexicographic.{pointwise}
 use Rattle.std.proofs.lemmas.List.{get_or_append_left, get_or-map, length-map, length-append, map-append}
-use Rattle.std.proofs.lemmas.List.Quantifiers.{position-Some}
 use Rattle.std.proofs.lemmas.List.Elements.{Contains-append_left, Contains-append_right}
 use Rattle.std.proofs.lemmas.Slice.Eq.{bytes_eq-Decides}
 use Rattle.systems.specs.System.{Arrow}
@@ -22,17 +21,6 @@ label_here pieces label i piece bytes within there is alike = record {
   within = omega (arith, length-map pieces (λ (v : Vec ℕ). v.items), within);
   is = get_or-map (λ (v : Vec ℕ). v.items) pieces i piece [] within ∙ ap (λ (v : Vec ℕ). v.items) (sym there) ∙ sym is ∙ (bytes_eq-Decides bytes label).0 alike;
 }
-
--- so is the piece that is found
-pub label_found : (pieces : List (Vec ℕ)) (label : List ℕ) (i : ℕ) → position (λ (v : Vec ℕ). pointwise nat_eq label v.items) pieces ≡ Some i
-    → HasLabel (texts pieces) i label
-label_found [] label i at = absurd (true≢false (sym (ap is_some at)))
-label_found (x ∷ xs) label i at =
-    let (within, alike, first) = position-Some (λ (v : Vec ℕ). pointwise nat_eq label v.items) (x ∷ xs) i x at in
-    record {
-      within = omega (arith, length-map (x ∷ xs) (λ (v : Vec ℕ). v.items), within);
-      is = get_or-map (λ (v : Vec ℕ). v.items) (x ∷ xs) i x [] within ∙ sym ((bytes_eq-Decides label (get_or (x ∷ xs) i x).items).0 alike);
-    }
 
 pub all_append : {X : Type 0} (P : X → Type 0) (xs ys : List X) → AllByRecursion P xs → AllByRecursion P ys → AllByRecursion P (xs ++ ys)
 all_append P [] ys p q = q

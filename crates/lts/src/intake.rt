@@ -26,24 +26,6 @@ pub(crate) struct Rows<S: BuildHasher> {
 fn number_of<S: BuildHasher>(
     alloc: Global,
     labels: &mut IndexSet<Vec<u8>, S>,
-    label: &[u8],
-) -> Result<u32, Memory>
-    requires { length labels.old.keys < 2 ^ 32 - 1 }
-    ensures number { IfOk result (λ k. HasLabel (texts labels.new.keys) k label.now) }
-    ensures kept { OnOk result (Extends (texts labels.old.keys) (texts labels.new.keys) label.now) }
-    ensures len { OnOk result (length labels.new.keys ≤ length labels.old.keys + 1) }
-{
-    if let Some(number) = labels.get_index_of(label) {
-        return Ok(number as u32);
-    }
-    let (number, _) = labels.insert_full(Vec::from_slice(alloc, label)?)?;
-    Ok(number as u32)
-}
-
-// The number of the label, which is looked for among those that came lately before it is among all.
-fn lately_or_of<S: BuildHasher>(
-    alloc: Global,
-    labels: &mut IndexSet<Vec<u8>, S>,
     recent: &mut Recent,
     label: &[u8],
 ) -> Result<u32, Memory>
@@ -55,7 +37,8 @@ fn lately_or_of<S: BuildHasher>(
     if let Some(number) = recent.number(labels.as_slice(), label) {
         return Ok(number);
     }
-    let number = number_of(alloc, labels, label)?;
+    let (place, _) = labels.insert_full(Vec::from_slice(alloc, label)?)?;
+    let number = place as u32;
     recent.put(label, number);
     Ok(number)
 }
@@ -81,7 +64,7 @@ impl<S: BuildHasher> Rows<S> {
         ensures len { OnOk result (length self.new.labels.keys ≤ length self.old.labels.keys + 1) }
         ensures count { OnOk result (length self.new.transitions.items ≡ length self.old.transitions.items + 1) }
     {
-        let label = lately_or_of(alloc, &mut self.labels, &mut self.recent, spelled.label)?;
+        let label = number_of(alloc, &mut self.labels, &mut self.recent, spelled.label)?;
         self.transitions.push(Transition {
             source: spelled.source,
             label,

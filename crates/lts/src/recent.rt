@@ -5,10 +5,10 @@ ghost use Rattle.systems.specs.Label.{texts};
 ghost use Rattle.lts.specs.Gathered.{HasLabel};
 
 // So many numbers are kept.
-const PLACES: usize = 256;
+const PLACES: usize = 16_384;
 
 // So many bytes at the end of a label tell its place.
-const TELLING: usize = 4;
+const TELLING: usize = 6;
 
 /// Numbers of labels that came lately, each at a place that its label tells. More than one label may tell a place, so the label of a
 /// number is compared.

@@ -1,5 +1,5 @@
-// Labels whose bytes meet at one place of the reader's index: of each pair of eight bytes either may stand, and 64-bit FNV-1a agrees in its lowest
-// fifty bits on both. Another program looked for the pairs.
+// Labels that are made to meet under a known hash: of each pair of eight bytes either may stand, and 64-bit FNV-1a agrees in its lowest fifty bits on
+// both. Another program looked for the pairs.
 
 use crate::common::{holds, push_step, push_text, repeated, system};
 use lts::Lts;
