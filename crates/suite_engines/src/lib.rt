@@ -26,4 +26,6 @@ mod told_reasons;
 #[cfg(test)]
 mod unwritten;
 #[cfg(test)]
+mod worked_rows;
+#[cfg(test)]
 mod written_checks;
