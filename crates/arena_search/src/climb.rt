@@ -36,7 +36,7 @@ impl Search {
             self.gather_all(arena, level == 0);
             let found = self.settle_all(arena, level);
             self.pay(found.saturating_add(1));
-            if found < FEW {
+            if found < FEW && !self.can_spare(0) {
                 level = self.walk(arena, level);
             }
             let next = self.next_level(level);
@@ -139,9 +139,18 @@ impl Search {
         let are_ends = is_first && !self.part.wants_one(node);
         if is_dense || are_ends || is_first && few > 0 {
             self.pull(arena, number, node);
+        } else if few > 0 && self.can_spare(rest) {
+            let cost = rest.saturating_add(self.gain.width());
+            self.spare = self.spare.saturating_sub(cost);
+            self.pull(arena, number, node);
         } else if few > 0 {
             self.push(arena, number, node);
         }
+    }
+
+    // Whether so many states can be looked at instead of edges back, which it would take longer to make.
+    fn can_spare(&self, states: usize) -> bool {
+        self.back.is_empty() && states.saturating_add(self.gain.width()) <= self.spare
     }
 
     // The states of a node that may be gained yet: what the player of the next block has gained before was lost for good.
@@ -249,11 +258,14 @@ impl Search {
 
     fn settle_node(&mut self, number: usize, level: u32) -> usize {
         let mut found = 0_usize;
+        let counted = self.leveled(level);
         for place in 0..self.delta.count(number) {
             let word = self.delta.touched(number, place);
             let bits = self.delta.word(number, word);
-            self.counts.put(number, word, bits, level);
             found = found.wrapping_add(count(bits));
+            for state in states_of(word, bits & !self.kept(number, word)) {
+                self.count(number, state, counted);
+            }
         }
         found
     }

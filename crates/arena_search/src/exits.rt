@@ -32,7 +32,7 @@ impl Search {
         let fields = self.layout.fields(self.odd.has(number, state));
         let end = self.part.priority(self.part.blocks);
         let here = fields.above(self.part.least) & !fields.above(end);
-        self.measures.get_or(number, state, 0) & here
+        self.counted(self.measures(number), state) & here
     }
 
     // The rounds at hand of a player's blocks outside of a block.

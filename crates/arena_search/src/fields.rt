@@ -1,9 +1,7 @@
 // Where the counts of a ranking stand in its numbers.
 
-use crate::arena::Arena;
+use crate::arena::{Arena, Node};
 use crate::part::Part;
-use lists::list::List;
-use std::alloc::Global;
 
 /// How many priorities there are at most.
 pub(crate) const PRIORITIES: u32 = 32;
@@ -14,16 +12,14 @@ const EVENS: u32 = 0xAAAA_AAAA;
 /// The mark of a number that says that Odd wins.
 pub(crate) const MARK: u64 = 1;
 
-/// The fields of a player's numbers: above the mark and the height one for each priority that the player counts, that of the greatest one
-/// highest, and above them the group.
+/// Where a player's counts stand in a number: a field for each priority that the player counts, that of the greatest one highest.
 #[derive(Clone, Copy)]
 pub(crate) struct Fields {
     // The priorities, as bits.
     priorities: u32,
-    // How many bits are below the fields, in each of them, and in the group.
+    // How many bits are below the fields, and in each of them.
     low: u32,
     width: u32,
-    group: u32,
 }
 
 // How many bits hold all numbers up to this one.
@@ -37,18 +33,8 @@ fn power(bits: u32) -> u64 {
 }
 
 impl Fields {
-    fn of(priorities: u32, low: u32, group: u32) -> Self {
-        let rest = u64::BITS.saturating_sub(low).saturating_sub(group);
-        Fields {
-            priorities,
-            low,
-            width: rest.checked_div(priorities.count_ones()).unwrap_or(rest),
-            group,
-        }
-    }
-
-    // The lowest bit of the field of a priority, or of the next one that has one.
-    fn place(&self, priority: u32) -> u32 {
+    /// The lowest bit of the field of a priority, or of the next one that has one.
+    pub(crate) fn place(&self, priority: u32) -> u32 {
         let below = (power(priority).wrapping_sub(1) & u64::from(self.priorities)).count_ones();
         self.low.saturating_add(self.width.saturating_mul(below))
     }
@@ -68,37 +54,16 @@ impl Fields {
     /// How vertices of a priority count.
     pub(crate) fn step(&self, priority: u32) -> Step {
         let above = self.above(priority);
-        if power(priority) & u64::from(self.priorities) == 0 {
-            return Step {
-                above,
-                unit: 0,
-                field: 0,
-            };
-        }
+        let is_counted = power(priority) & u64::from(self.priorities) != 0;
         Step {
             above,
-            unit: power(self.place(priority)),
+            unit: if is_counted {
+                power(self.place(priority))
+            } else {
+                0
+            },
             field: above & !self.above(priority.wrapping_add(1)),
         }
-    }
-
-    /// How many of the lowest bits don't count at a priority.
-    pub(crate) fn shift(&self, priority: u32) -> u32 {
-        self.place(priority)
-    }
-
-    /// One in the field of groups.
-    pub(crate) fn group_unit(&self) -> u64 {
-        power(u64::BITS.saturating_sub(self.group))
-    }
-
-    /// How many of the lowest bits don't count at each priority. At priority 0 heights count.
-    pub(crate) fn shifts(&self, alloc: Global) -> List<u32> {
-        let mut shifts = List::filled(alloc, 1, 1);
-        for priority in 1..PRIORITIES {
-            shifts.push(self.place(priority));
-        }
-        shifts
     }
 }
 
@@ -126,41 +91,56 @@ impl Step {
     }
 }
 
-/// The fields of both players.
+/// The fields of both players, in numbers of 32 bits or of 64.
 #[derive(Clone, Copy)]
 pub(crate) struct Layout {
+    pub(crate) is_wide: bool,
     pub(crate) even: Fields,
     pub(crate) odd: Fields,
+    /// In a ranking: how many bits are below all fields, for the mark and the height, and above them, for the group.
+    pub(crate) low: u32,
+    pub(crate) group: u32,
 }
 
 impl Layout {
-    /// The fields for these nodes.
-    pub(crate) fn of(arena: &Arena) -> Self {
+    /// The fields that these nodes want: for a ranking those of the blocks, and for measures those of all priorities.
+    pub(crate) fn of(arena: &Arena, is_wide: bool) -> Self {
         let (mut priorities, mut height) = (0, 0);
         for number in 0..arena.count() {
             let node = arena.node(number);
             height = node.height.max(height);
-            if node.root == number {
-                priorities |= counted(Part::of(arena, number));
-            }
+            priorities |= counted(arena, node, number);
         }
-        let group = bits(u32::try_from(arena.count()).unwrap_or(u32::MAX));
-        let low = bits(height).saturating_add(1);
-        Layout {
-            even: Fields::of(priorities & EVENS, 1, group),
-            odd: Fields::of(priorities & !EVENS, low, group),
+        if arena.is_exact {
+            Layout::with(priorities | 3, is_wide, 0, 0)
+        } else {
+            let group = bits(u32::try_from(arena.count()).unwrap_or(u32::MAX));
+            Layout::with(priorities, is_wide, bits(height).saturating_add(1), group)
         }
     }
 
-    /// Fields that count all that a least measure does.
-    pub(crate) fn of_measures(arena: &Arena) -> Self {
-        let mut priorities = 3;
-        for number in 0..arena.count() {
-            priorities |= (power(arena.node(number).priority) & u64::from(u32::MAX)) as u32;
-        }
+    fn with(priorities: u32, is_wide: bool, low: u32, group: u32) -> Self {
+        let (evens, odds) = (priorities & EVENS, priorities & !EVENS);
+        let room = if is_wide {
+            u64::BITS.saturating_sub(low).saturating_sub(group)
+        } else {
+            u32::BITS
+        };
+        let most = evens.count_ones().max(odds.count_ones());
+        let even = Fields {
+            priorities: evens,
+            low: if is_wide { low } else { 0 },
+            width: room.checked_div(most).unwrap_or(room),
+        };
         Layout {
-            even: Fields::of(priorities & EVENS, 0, 0),
-            odd: Fields::of(priorities & !EVENS, 0, 0),
+            is_wide,
+            even,
+            odd: Fields {
+                priorities: odds,
+                ..even
+            },
+            low,
+            group,
         }
     }
 
@@ -169,27 +149,31 @@ impl Layout {
         if is_odd { self.odd } else { self.even }
     }
 
-    /// One in the field of a priority, for the player who counts it.
+    /// The lowest bit of the field of a priority, for the player who counts it.
+    pub(crate) fn place(&self, priority: u32) -> u32 {
+        self.fields(priority % 2 == 0).place(priority)
+    }
+
+    /// One in that field.
     pub(crate) fn unit(&self, priority: u32) -> u64 {
-        if priority % 2 == 1 {
-            power(self.even.place(priority))
-        } else {
-            power(self.odd.place(priority))
-        }
+        power(self.place(priority))
     }
 
     /// Whether all fields hold a count.
     pub(crate) fn holds(&self, count: u32) -> bool {
-        bits(count) <= self.even.width.min(self.odd.width)
+        bits(count) <= self.even.width
     }
 }
 
-// The priorities of the blocks of a component, as bits.
-fn counted(part: Part) -> u32 {
-    if !part.is_cyclic {
-        return 0;
-    }
-    let end = power(part.priority(part.blocks));
-    let below = end.wrapping_sub(1) & !power(part.least).wrapping_sub(1);
-    (below & u64::from(u32::MAX)) as u32
+// The priorities that are counted for the sake of a node, as bits: in a ranking those of the blocks of a component, for the node that it begins with.
+fn counted(arena: &Arena, node: Node, number: usize) -> u32 {
+    let part = Part::of(arena, number);
+    let bits = if arena.is_exact {
+        power(node.priority)
+    } else if node.root == number && part.is_cyclic {
+        power(part.priority(part.blocks)).wrapping_sub(power(part.least))
+    } else {
+        0
+    };
+    (bits & u64::from(u32::MAX)) as u32
 }

@@ -20,7 +20,7 @@ impl Lifted {
     #[inline(always)]
     fn take(&mut self, search: &Search, number: usize, state: usize) {
         if search.odd.has(number, state) == self.is_odd {
-            let word = search.measures.get_or(number, state, 0);
+            let word = search.counted(search.measures(number), state);
             let word = self.step.carried(word);
             self.best = if self.is_own {
                 self.best.min(word)
@@ -39,7 +39,8 @@ impl Search {
                 let node = arena.node(number);
                 let is_counted = self.part.is_cyclic && node.is_binder();
                 if self.part.has(node) && is_counted == are_binders {
-                    self.measures.open(alloc, number, arena.states, 0);
+                    let list = self.measures(number);
+                    self.open_list(alloc, list, arena.states);
                     self.lift_node(arena, number, node, is_counted);
                 }
             }
@@ -52,6 +53,7 @@ impl Search {
         }
         let even = self.layout.even.step(node.priority);
         let odd = self.layout.odd.step(node.priority);
+        let list = self.measures(number);
         let mut has_room = true;
         for state in 0..arena.states {
             let is_odd = self.odd.has(number, state);
@@ -62,18 +64,20 @@ impl Search {
                 self.lifted(arena, node, state, is_odd, step)
             };
             has_room &= step.has_room(word);
-            self.measures.set(number, state, word);
+            self.count(list, state, word);
         }
-        self.is_whole &= has_room;
+        if !has_room {
+            self.most = u32::MAX;
+        }
     }
 
     // What the winner of a binder counts.
     fn won(&self, number: usize, state: usize) -> u64 {
         let last = self.part.blocks.wrapping_sub(1);
-        if last > 1 || self.odd.has(number, state) != self.part.is_evens(last) {
-            self.counted(last, number, state)
+        if self.odd.has(number, state) != self.part.is_evens(last) {
+            self.counted(self.list(last, number), state)
         } else if last > 0 {
-            self.counted(last.wrapping_sub(1), number, state)
+            self.counted(self.list(last.wrapping_sub(1), number), state)
         } else {
             0
         }

@@ -62,7 +62,7 @@ impl Measures {
     /// comes first.
     pub fn counts_into(&self, side: Side, node: usize, state: usize, counts: &mut [u32]) {
         let fields = self.search.layout.fields(side.is_odd());
-        let word = self.search.measures.get_or(node, state, 0);
+        let word = self.search.counted(self.search.measures(node), state);
         let width = counts.len();
         for place in 0..width {
             let above = u32::try_from(width - 1 - place).unwrap_or(0);
@@ -103,17 +103,17 @@ impl Measures {
         } else {
             self.arena.real(node)
         };
-        let counted = self.search.counted_in(part, inner, real, state);
+        let counted = self.search.counted(self.search.list(inner, real), state);
         base.wrapping_add(counted)
     }
 
     /// What falls along edges where the player loses: the opponent's measure.
     pub fn top_height(&self, node: usize, state: usize) -> u64 {
-        self.search.measures.get_or(node, state, 0)
+        self.search.counted(self.search.measures(node), state)
     }
 
     /// How many of a height's lowest bits don't count at a priority.
     pub fn shift(&self, side: Side, priority: u32) -> u32 {
-        self.search.layout.fields(!side.is_odd()).shift(priority)
+        self.search.layout.fields(!side.is_odd()).place(priority)
     }
 }

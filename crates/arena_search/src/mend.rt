@@ -92,7 +92,7 @@ impl Search {
     #[inline(always)]
     pub(crate) fn lose(&mut self, arena: &Arena, number: usize, node: Node, state: usize) {
         let is_given = self.given(0, number, word_of(state)) & bit(state) != 0;
-        let level = self.counts.get_or(number, state, 0);
+        let level = self.level_at(number, state);
         if !is_given && self.level(arena, node, state) > level {
             let vertex = Vertex {
                 node: number,
@@ -150,8 +150,11 @@ impl Search {
         let node = arena.node(number);
         if !self.gain.has(number, state) {
             NEVER
-        } else if self.part.has(node) && self.part.block(node) == 0 {
-            self.counts.get_or(number, state, 0)
+        } else if self.part.has(node)
+            && self.part.block(node) == 0
+            && self.kept(number, word_of(state)) & bit(state) == 0
+        {
+            self.level_at(number, state)
         } else {
             0
         }
@@ -164,6 +167,7 @@ impl Search {
             let vertex = self.gone.get_or(place, self.vertex(0));
             if !self.is_done(vertex) {
                 self.note(
+                    1,
                     1,
                     vertex.node,
                     word_of(vertex.state),
@@ -188,7 +192,7 @@ impl Search {
             let node = arena.node(*parent);
             let is_around = self.part.has(node) && self.part.block(node) == 1;
             if is_around && !self.gain.has(self.row(1, *parent), state) {
-                self.note(1, *parent, word_of(state), bit(state), round);
+                self.note(1, 1, *parent, word_of(state), bit(state), round);
                 self.lost.push(Vertex {
                     node: *parent,
                     state,

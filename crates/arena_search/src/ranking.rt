@@ -1,8 +1,7 @@
 // Who wins each node at each state, as a ranking.
 
 use crate::arena::Arena;
-use crate::fields::MARK;
-use crate::part::Part;
+use crate::fields::{Fields, MARK, PRIORITIES};
 use crate::search::Search;
 use columns::column::{Column, Columns, Counted, Halves};
 use forms::form::Normal;
@@ -30,58 +29,60 @@ fn place(number: usize) -> u32 {
 }
 
 impl Search {
-    // What a player counts at a node's states: the rounds of one of the two outermost blocks.
-    fn counts_of(&self, part: Part, real: usize, are_evens: bool, base: u64) -> Counted {
-        let last = part.blocks.wrapping_sub(1);
-        let block = if part.is_evens(last) == are_evens {
-            last
-        } else {
-            last.wrapping_sub(1)
-        };
-        let row = self.row(block, real);
-        if part.is_cyclic && part.blocks <= 2 && block < 2 && self.counts.has_some(row) {
-            Counted {
-                base,
-                unit: self.layout.unit(part.priority(block)),
-                counts: place(row),
-            }
-        } else {
-            Counted {
-                base,
-                unit: 0,
-                counts: NOWHERE,
-            }
-        }
-    }
-
     // The numbers of a node, above the number of its component.
     fn column(&self, arena: &Arena, number: usize) -> Column {
         let node = arena.node(number);
         let real = arena.real(number);
-        let part = Part::of(arena, node.root);
         let group = self.nodes.saturating_sub(node.root) as u64;
-        let even = group.wrapping_mul(self.layout.even.group_unit());
-        let odd = group.wrapping_mul(self.layout.odd.group_unit());
+        let base = group.checked_shl(u64::BITS.saturating_sub(self.layout.group));
+        let even = self.half(real, base.unwrap_or(0));
         let height = u64::from(node.height).wrapping_mul(2).wrapping_add(MARK);
-        let halves = Halves {
-            marks: place(real.wrapping_mul(self.odd.width())),
-            even: self.counts_of(part, real, true, even),
-            odd: self.counts_of(part, real, false, odd.wrapping_add(height)),
-            words: if part.is_cyclic && part.blocks > 2 {
-                place(self.list(part.blocks.wrapping_sub(1), real))
-            } else {
-                NOWHERE
-            },
+        let odd = Counted {
+            base: even.base.wrapping_add(height),
+            ..even
         };
-        let has_words = halves.words != NOWHERE;
         let size = self.odd.size(real);
-        if !has_words && halves.even.unit == 0 && size == 0 {
-            Column::Same(halves.even.base)
-        } else if !has_words && halves.odd.unit == 0 && size == arena.states {
-            Column::Same(halves.odd.base)
+        let is_constant = even.unit == 0 && !self.words.has_some(real);
+        if is_constant && size == 0 {
+            Column::Same(even.base)
+        } else if is_constant && size == arena.states {
+            Column::Same(odd.base)
         } else {
-            Column::Won(halves)
+            Column::Won(Halves {
+                marks: place(real.wrapping_mul(self.odd.width())),
+                even,
+                odd,
+                words: place(real),
+            })
         }
+    }
+
+    // A player's numbers of a node, with what is counted, if anything is.
+    fn half(&self, real: usize, base: u64) -> Counted {
+        let has_counts = self.counts.has_some(real);
+        Counted {
+            base,
+            unit: if has_counts {
+                1_u64.checked_shl(self.layout.low).unwrap_or(0)
+            } else {
+                0
+            },
+            counts: if has_counts { place(real) } else { NOWHERE },
+        }
+    }
+
+    // How many of the lowest bits don't count for a player at each priority. At priority 0 heights count.
+    fn shifts(&self, alloc: Global, fields: Fields) -> List<u32> {
+        let below = if self.layout.is_wide {
+            0
+        } else {
+            self.layout.low
+        };
+        let mut shifts = List::filled(alloc, 1, 1);
+        for priority in 1..PRIORITIES {
+            shifts.push(fields.place(priority).saturating_add(below));
+        }
+        shifts
     }
 }
 
@@ -91,8 +92,8 @@ fn ranking_of(alloc: Global, arena: &Arena, search: Search) -> Option<GuessedRan
     for number in 0..arena.count() {
         nodes.push(search.column(arena, number));
     }
-    let evens = search.layout.even.shifts(alloc);
-    let odds = search.layout.odd.shifts(alloc);
+    let evens = search.shifts(alloc, search.layout.even);
+    let odds = search.shifts(alloc, search.layout.odd);
     let is_whole = nodes.is_whole() && evens.is_whole() && odds.is_whole() && search.is_whole();
     let Search {
         odd,

@@ -34,8 +34,9 @@ pub(crate) struct Search {
     pub(crate) order: List<usize>,
     /// The nodes outside to which they lead.
     pub(crate) exits: List<usize>,
-    /// For each block the round at hand.
+    /// For each block the round at hand, and one in the field of rounds, or of levels.
     pub(crate) rounds: List<u32>,
+    units: List<u64>,
     /// For each block and node the states that the player of the block has gained.
     pub(crate) gain: Sets,
     /// What was gained in the level at hand, and what is gained in the next one.
@@ -43,9 +44,11 @@ pub(crate) struct Search {
     pub(crate) next: Fronts,
     /// For each node the states that Odd wins.
     pub(crate) odd: Sets,
-    /// For the two innermost blocks and each node the levels and the rounds.
+    /// How many lists are between those of a node for a block and for the next one: none where a node has one list for all blocks.
+    pub(crate) stride: usize,
+    /// For each node what was counted when it was gained last, by the player who gained it: the level or the rounds of the block, with what the player's
+    /// blocks inside it count. One of both is in use, by the layout.
     pub(crate) counts: Table<u32>,
-    /// For the blocks further out and each node the rounds, with what the player's blocks inside them count.
     pub(crate) words: Table<u64>,
     /// For each modality that waits for all successors how many of the first ones need no more look.
     pub(crate) cursors: Table<u32>,
@@ -64,8 +67,10 @@ pub(crate) struct Search {
     pub(crate) most: u32,
     /// How many more vertices may be looked at.
     pub(crate) left: u64,
-    /// For each node the measures of who wins it, where these are wanted.
-    pub(crate) measures: Table<u64>,
+    /// How many states may be looked at before edges back are made.
+    pub(crate) spare: usize,
+    /// The lowest bit of the field in which levels are counted.
+    place: u32,
     /// For each node whether it is outside and what is won there counts, and how many such nodes there are.
     pub(crate) are_timed: List<bool>,
     pub(crate) timed: usize,
@@ -73,31 +78,31 @@ pub(crate) struct Search {
 }
 
 impl Search {
-    fn new(alloc: Global, arena: &Arena) -> Self {
+    fn new(alloc: Global, arena: &Arena, layout: Layout) -> Self {
         let (nodes, states) = (arena.count(), arena.states);
         let mut blocks = 2;
         for root in 0..nodes {
             blocks = Part::of(arena, root).blocks.max(blocks);
         }
+        let stride = if arena.is_exact { nodes } else { 0 };
+        let lists = blocks.saturating_mul(stride).saturating_add(nodes);
         Search {
             alloc,
-            layout: if arena.is_exact {
-                Layout::of_measures(arena)
-            } else {
-                Layout::of(arena)
-            },
+            layout,
             part: Part::of(arena, 0),
             back: Edges::none(alloc),
             nodes,
             order: List::none(alloc),
             exits: List::none(alloc),
             rounds: List::filled(alloc, blocks, 0),
+            units: List::filled(alloc, blocks, 0),
             gain: Sets::new(alloc, blocks.saturating_mul(nodes), states),
             delta: Fronts::new(alloc, nodes, states),
             next: Fronts::new(alloc, nodes, states),
             odd: Sets::new(alloc, nodes, states),
-            counts: Table::new(alloc, nodes.saturating_mul(2)),
-            words: Table::new(alloc, blocks.saturating_sub(2).saturating_mul(nodes)),
+            stride,
+            counts: Table::new(alloc, lists),
+            words: Table::new(alloc, lists),
             cursors: Table::new(alloc, nodes),
             is_walking: false,
             todo: List::none(alloc),
@@ -108,7 +113,8 @@ impl Search {
             many_lost: (states / 16).saturating_add(64),
             most: 0,
             left: BUDGET,
-            measures: Table::new(alloc, nodes),
+            spare: arena.forth.count() / 4,
+            place: 0,
             are_timed: List::filled(alloc, nodes, false),
             timed: 0,
             is_whole: true,
@@ -131,8 +137,8 @@ impl Search {
             && are_counts
             && self.gone.is_whole()
             && self.back.is_whole()
-            && self.measures.is_whole()
             && self.are_timed.is_whole()
+            && self.units.is_whole()
             && self.is_whole
     }
 
@@ -142,9 +148,58 @@ impl Search {
         block.wrapping_mul(self.nodes).wrapping_add(node)
     }
 
-    // The list of words of a node in a block that has one.
+    /// The list of a node for a block.
+    #[inline(always)]
     pub(crate) fn list(&self, block: usize, node: usize) -> usize {
-        self.row(block.wrapping_sub(2), node)
+        block.wrapping_mul(self.stride).wrapping_add(node)
+    }
+
+    /// What a list counts at a state.
+    #[inline(always)]
+    pub(crate) fn counted(&self, list: usize, state: usize) -> u64 {
+        if self.layout.is_wide {
+            self.words.get_or(list, state, 0)
+        } else {
+            u64::from(self.counts.get_or(list, state, 0))
+        }
+    }
+
+    #[inline(always)]
+    pub(crate) fn count(&mut self, list: usize, state: usize, word: u64) {
+        if self.layout.is_wide {
+            self.words.set(list, state, word);
+        } else {
+            let word = (word & u64::from(u32::MAX)) as u32;
+            self.counts.set(list, state, word);
+        }
+    }
+
+    /// The list of the measures of a node, where these are wanted.
+    pub(crate) fn measures(&self, node: usize) -> usize {
+        self.list(self.rounds.len(), node)
+    }
+
+    /// A level, in its field.
+    #[inline(always)]
+    pub(crate) fn leveled(&self, level: u32) -> u64 {
+        self.units.get_or(0, 0).wrapping_mul(u64::from(level))
+    }
+
+    /// The level of a vertex that was gained by its level.
+    #[inline(always)]
+    pub(crate) fn level_at(&self, node: usize, state: usize) -> u32 {
+        let level = self.counted(node, state) >> (self.place % u64::BITS);
+        (level & u64::from(u32::MAX)) as u32
+    }
+
+    /// The states of which a list for all blocks keeps what was counted in another block, where they are gained at the level zero.
+    #[inline(always)]
+    pub(crate) fn kept(&self, number: usize, word: usize) -> u64 {
+        if self.stride == 0 {
+            self.given(0, number, word)
+        } else {
+            0
+        }
     }
 
     /// So many vertices were looked at.
@@ -161,7 +216,16 @@ impl Search {
 
     /// What is found of all nodes, component by component.
     pub(crate) fn of(alloc: Global, arena: &Arena) -> Self {
-        let mut search = Search::new(alloc, arena);
+        let search = Search::with(alloc, arena, Layout::of(arena, false));
+        if search.layout.holds(search.most) {
+            return search;
+        }
+        drop(search);
+        Search::with(alloc, arena, Layout::of(arena, true))
+    }
+
+    fn with(alloc: Global, arena: &Arena, layout: Layout) -> Self {
+        let mut search = Search::new(alloc, arena, layout);
         for root in (0..arena.count()).rev() {
             if arena.node(root).root == root && search.left > 0 {
                 search.solve(alloc, arena, root);
@@ -173,6 +237,11 @@ impl Search {
     // Finds who wins the nodes of the component with this root, where it is known of those below it.
     fn solve(&mut self, alloc: Global, arena: &Arena, root: usize) {
         self.part = Part::of(arena, root);
+        self.place = self.layout.place(self.part.least);
+        for block in 0..self.part.blocks {
+            let unit = self.layout.unit(self.part.priority(block));
+            self.units.set(block, unit);
+        }
         self.order.clear();
         self.exits.clear();
         self.timed = 0;
@@ -197,6 +266,7 @@ impl Search {
             return;
         }
         self.order.push(number);
+        self.most = self.most.max(node.height);
         for child in [node.first, node.second] {
             if child < self.nodes && !self.part.has(arena.node(child)) {
                 self.enter_exit(arena, child);
@@ -207,18 +277,18 @@ impl Search {
         }
         if self.part.is_cyclic {
             for block in self.part.block(node)..self.part.blocks {
-                self.open_list(alloc, arena.states, block, number);
+                let list = self.list(block, number);
+                self.open_list(alloc, list, arena.states);
             }
         }
     }
 
-    fn open_list(&mut self, alloc: Global, states: usize, block: usize, number: usize) {
-        if block < 2 {
-            let row = self.row(block, number);
-            self.counts.open(alloc, row, states, 0);
-        } else {
-            let list = self.list(block, number);
+    /// Has a list at hand, of zeros, if it isn't.
+    pub(crate) fn open_list(&mut self, alloc: Global, list: usize, states: usize) {
+        if self.layout.is_wide {
             self.words.open(alloc, list, states, 0);
+        } else {
+            self.counts.open(alloc, list, states, 0);
         }
     }
 
@@ -308,7 +378,7 @@ impl Search {
             let node = arena.node(number);
             let own = self.part.block(node);
             if own < block {
-                self.gain_rest(block, number, round);
+                self.gain_rest(block, own, number, round);
             } else if own == block {
                 self.find_fresh(arena, block, number, node.first);
             }
@@ -327,11 +397,11 @@ impl Search {
     }
 
     // A block's player gains the states of a node that the other one hasn't gained inside.
-    fn gain_rest(&mut self, block: usize, number: usize, round: u32) {
+    fn gain_rest(&mut self, block: usize, own: usize, number: usize, round: u32) {
         for word in 0..self.gain.width() {
             let rest = self.held(block, block.wrapping_sub(1), number, word);
             let fresh = rest & !self.gain.word(self.row(block, number), word);
-            self.note(block, number, word, fresh, round);
+            self.note(block, own, number, word, fresh, round);
         }
     }
 
@@ -350,7 +420,7 @@ impl Search {
         for place in 0..self.next.count(number) {
             let word = self.next.touched(number, place);
             let bits = self.next.word(number, word);
-            self.note(block, number, word, bits, round);
+            self.note(block, block, number, word, bits, round);
             self.list_lost(number, word, bits);
         }
         self.next.clear(number);
@@ -366,66 +436,51 @@ impl Search {
         }
     }
 
-    /// A block's player gains these states of a node in a round.
-    pub(crate) fn note(&mut self, block: usize, number: usize, word: usize, bits: u64, round: u32) {
+    /// A block's player gains these states of a node in a round. Inside of the node's own block nothing is counted.
+    pub(crate) fn note(
+        &mut self,
+        block: usize,
+        own: usize,
+        number: usize,
+        word: usize,
+        bits: u64,
+        round: u32,
+    ) {
         if bits == 0 {
             return;
         }
         self.most = self.most.max(round);
         let row = self.row(block, number);
         self.gain.add(row, word, bits);
-        if block < 2 {
-            self.counts.put(row, word, bits, round);
+        let list = self.list(block, number);
+        let inner = self.list(block.wrapping_sub(2), number);
+        let is_inner = own.wrapping_add(2) <= block;
+        if is_inner && inner == list && round == 0 {
             return;
         }
-        let unit = self.layout.unit(self.part.priority(block));
-        let own = unit.wrapping_mul(u64::from(round));
+        let unit = self.units.get_or(block, 0);
+        let rounds = unit.wrapping_mul(u64::from(round));
         for state in states_of(word, bits) {
-            let inner = self.counted(block.wrapping_sub(2), number, state);
-            let list = self.list(block, number);
-            self.words.set(list, state, own.wrapping_add(inner));
+            let counted = if is_inner {
+                self.counted(inner, state)
+            } else {
+                0
+            };
+            self.count(list, state, rounds.wrapping_add(counted));
         }
     }
 
-    /// What the player of a block counts there and inside it.
-    pub(crate) fn counted(&self, block: usize, number: usize, state: usize) -> u64 {
-        self.counted_in(self.part, block, number, state)
-    }
-
-    /// What the player of a component's block counts there and inside it.
-    pub(crate) fn counted_in(&self, part: Part, block: usize, number: usize, state: usize) -> u64 {
-        if block < 2 {
-            let count = self.counts.get_or(self.row(block, number), state, 0);
-            let unit = self.layout.unit(part.priority(block));
-            unit.wrapping_mul(u64::from(count))
-        } else {
-            self.words.get_or(self.list(block, number), state, 0)
-        }
-    }
-
-    // Keeps who wins a node, and of three blocks or more one list of words for both players.
+    // Keeps who wins a node.
     fn conclude(&mut self, number: usize) {
         let last = self.part.blocks.wrapping_sub(1);
         for word in 0..self.gain.width() {
             let gained = self.gain.word(self.row(last, number), word);
-            let all = self.gain.all(word);
             let odd = if self.part.is_evens(last) {
-                all & !gained
+                self.gain.all(word) & !gained
             } else {
                 gained
             };
             self.odd.set_word(number, word, odd);
-            if last > 1 {
-                self.count_rest(last, number, word, all & !gained);
-            }
-        }
-    }
-
-    fn count_rest(&mut self, last: usize, number: usize, word: usize, bits: u64) {
-        for state in states_of(word, bits) {
-            let counted = self.counted(last.wrapping_sub(1), number, state);
-            let list = self.list(last, number);
-            self.words.set(list, state, counted);
         }
     }
 
@@ -439,6 +494,6 @@ impl Search {
     pub(crate) fn settle(&mut self, vertex: Vertex, level: u32) {
         let Vertex { node, state } = vertex;
         self.gain.add(node, word_of(state), bit(state));
-        self.counts.set(node, state, level);
+        self.count(node, state, self.leveled(level));
     }
 }

@@ -1,6 +1,5 @@
 // Lists of numbers by state.
 
-use crate::sets::states_of;
 use std::alloc::Global;
 
 /// Lists of which each is there once it is opened. What isn't there is read as a given number, and isn't written.
@@ -73,13 +72,6 @@ impl<T: Copy + Drop> Table<T> {
             for place in 0..self.lists[list].len() {
                 self.set(list, place, item);
             }
-        }
-    }
-
-    /// Writes a number for states of a word.
-    pub(crate) fn put(&mut self, list: usize, word: usize, bits: u64, item: T) {
-        for state in states_of(word, bits) {
-            self.set(list, state, item);
         }
     }
 }
