@@ -10,7 +10,7 @@ _mucheck_options() {
   case ${1-} in
     check) echo "--plain --strict --stats --quiet --summary --states --limit --priorities $lifting --game --evidence --witness --help" ;;
     why) echo "--strict --priorities $lifting --help" ;;
-    table) echo "--plain --strict --priorities $lifting --help" ;;
+    table) echo "--plain --strict --stats --priorities $lifting --help" ;;
     normal) echo "--priorities --help" ;;
     solve) echo "--evidence --stats $lifting --help" ;;
     replay) echo "--workers --help" ;;

@@ -5,5 +5,4 @@ pub mod decide;
 mod guessed;
 pub mod hands;
 pub mod pair;
-pub mod raised;
 mod small;

@@ -128,6 +128,7 @@ pub record IsTableRequest (rows : List Row) (table : TableRequest) : Type 0 wher
   pub options : AreOptions rows table.options
   pub plain : table.plain ≡ stands rows (codes "plain")
   pub strict : table.strict ≡ stands rows (codes "strict")
+  pub stats : table.stats ≡ stands rows (codes "stats")
 
 pub record AreOutputs (rows : List Row) (outputs : Outputs) : Type 0 where
   pub game : IsFileIfAny rows (codes "game") outputs.game

@@ -58,14 +58,17 @@ pub fn version_text(alloc: Global) -> Result<String, MuError>
     text(format!(in alloc; "mucheck {VERSION}\n"))
 }
 
-/// What a code means, and how it is mended.
+/// What a code means, in small letters or capital ones, and how it is mended.
 ///
 /// # Errors
 /// U1 where there is no such code, U4.
 pub fn explanation(alloc: Global, code: &str) -> Result<String, MuError>
     ensures { IfErr result IsLineError }
 {
-    match code_entry(code) {
+    let Ok(code) = code.to_ascii_uppercase(alloc) else {
+        return Err(MuError::Memory);
+    };
+    match code_entry(code.as_str()) {
         Some(entry) => {
             let (code, place, wrong, remedy) = (entry.code, entry.place, entry.wrong, entry.remedy);
             text(format!(in alloc; "{code}{place}: {wrong}\nWhat to do: {remedy}\n"))

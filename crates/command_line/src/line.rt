@@ -168,6 +168,7 @@ fn table_of<'a>(alloc: Global, matches: &ArgMatches<'a>) -> Result<Command<'a>, 
         options,
         plain: has_value(matches, PLAIN, "true"),
         strict: has_value(matches, STRICT, "true"),
+        stats: has_value(matches, STATS, "true"),
     }))
 }
 

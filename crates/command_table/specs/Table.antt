@@ -91,8 +91,8 @@ why_rules rules boards =
 
 abbrev pub table_rules : (rules boards : Choice) → List Rule
 table_rules rules boards =
-    file_rule (codes "SYSTEM") ∷ files_rule (codes "FORMULA") ∷ flag_rule (codes "plain") ∷ flag_rule (codes "strict") ∷ priorities_rule rules
-    ∷ lifting_rules boards
+    file_rule (codes "SYSTEM") ∷ files_rule (codes "FORMULA") ∷ flag_rule (codes "plain") ∷ flag_rule (codes "strict") ∷ flag_rule (codes "stats")
+    ∷ priorities_rule rules ∷ lifting_rules boards
 
 abbrev pub normal_rules : (rules : Choice) → List Rule
 normal_rules rules = file_rule (codes "FORMULA") ∷ priorities_rule rules ∷ []

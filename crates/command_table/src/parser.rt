@@ -90,8 +90,8 @@ const ABOUT: &str =
     "Checks formulas of the modal mu-calculus at the states of labelled transition systems";
 
 const AFTER: &str =
-    "mucheck help COMMAND says more of a command. One of the files that it reads may be -, which\n\
-is standard input.\n\n\
+    "mucheck help COMMAND says more of a command; for a pager, mucheck help | less. One of the\n\
+files that it reads may be -, which is standard input.\n\n\
 A refusal begins with a line on standard error, mucheck: CODE, with its place. The command\n\
 mucheck explain CODE says what it means and how to mend it. The most frequent:\n\
 \x20 A1      mostly both files in the wrong order, or a byte order mark\n\
@@ -106,15 +106,14 @@ const CHECK_AFTER: &str =
     "The report goes to the standard output. The status is 0 where the initial state satisfies\n\
 the formula, 1 where it does not, 2 where an argument or a text is refused, and 3 where\n\
 memory, a file, a read or a write failed.\n\n\
-Example:\n  mucheck check examples/first/system.aut examples/first/formula.mcf";
+Example:\n  mucheck check examples/first/system.aut examples/first/formula.mcf --summary";
 
 const WHY_ABOUT: &str = "Tells why a system satisfies a formula, or why it does not";
 
 const WHY_AFTER: &str =
-    "The answer for the initial state goes to the standard output, and then the transitions that it\n\
-rests on, from the initial state on: for a no a counterexample. Where there is more than one\n\
-way on, each is indented. Of more than 200 transitions the first 200 are told. The status is\n\
-that of check.\n\n\
+    "The answer for the initial state goes to the standard output, and then the play that shows it,\n\
+from the initial state on: for a no a counterexample. Where the loser has a choice, each way is\n\
+indented. Of more than 200 lines the first 200 are told. The status is that of check.\n\n\
 Example:\n  mucheck why examples/philosophers-deadlock/system.aut examples/philosophers-deadlock/no-deadlock.mcf";
 
 const TABLE_ABOUT: &str = "Reports for each of many formulas whether a system satisfies it";
@@ -231,7 +230,7 @@ const SEATS_HELP: &str = "How many workers the schedule has: 2 is the default";
 const SHARDS_HELP: &str = "How many locks the locked board has: 16 is the default";
 
 const BOARD_HELP: &str =
-    "What the workers share: shards under locks, or a word for each vertex, or that where it fits";
+    "Lift over this board: locked (shards under locks) or packed (a word for each vertex). Lifting climbs one count at a time where Odd wins: minutes on a million states. auto, the default, searches and tests, and lifts where that finds nothing";
 
 /// All commands of the program, which tells this version.
 ///
@@ -336,6 +335,7 @@ fn table_parser<'a>(
     let parser = with_arg(parser, files(alloc, FORMULA, FORMULAS_HELP));
     let parser = with_arg(parser, flag(alloc, PLAIN, PLAIN_HELP));
     let parser = with_arg(parser, flag(alloc, STRICT, STRICT_HELP));
+    let parser = with_arg(parser, flag(alloc, STATS, STATS_HELP));
     let parser = with_arg(parser, rule(alloc, rules));
     with_workers(alloc, parser, boards)
 }

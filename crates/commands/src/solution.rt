@@ -5,9 +5,7 @@ ghost use Rattle.std.specs.Arc.{arc_value};
 ghost use Rattle.certify.specs.Pair.{AreFull};
 ghost use Rattle.requests.specs.Solver.{FitsBoard, IsUnsolved};
 ghost use Rattle.commands.specs.Solves.{IsUnproved};
-ghost use Rattle.commands.specs.Winners.{AreWinners};
 
-use crate::winner_text::{guessed_winners, winners};
 use certify::decide::certified_evidence;
 use certify::pair::EvidencePair;
 use evidence::error::EvidenceError;
@@ -20,44 +18,16 @@ use measures::observer::{Observer, Stage};
 use measures::table::Settled;
 use requests::error::MuError;
 use requests::request::Options;
-use requests::solver::{require_board, solve_seen};
+use requests::solver::solve_seen;
 use std::alloc::Global;
 use std::sync::{Arc, Wait};
 use std::thread::Threads;
 use workers::gate::NoGate;
 
-/// Who wins each vertex: by evidence that is guessed and found good, where there is some; else by lifting.
+/// Evidence of all that each player wins: that which is guessed, where no board is named and it is found good; else that of the least progress tables.
 ///
 /// # Errors
-/// T1 where the packed board is asked for and can't be had, and only there; T2, V1 and U4 for memory.
-pub(crate) fn winners_by<O: Observer + Sync, H: Threads + Wait + Clone + Copy + Drop + Send + Sync>(
-    rt: &H,
-    alloc: Global,
-    game: &Arc<Game, Global>,
-    options: &Options,
-    observer: &O,
-) -> Result<Vec<bool>, MuError>
-    ensures exact { IfOk result (λ marks. AreWinners (arc_value game.now) marks.items) }
-    ensures board { IfOk result (λ _. FitsBoard (Some options.now.board) (arc_value game.now)) }
-    ensures refusal { IfErr result (IsUnsolved (Some options.now.board) (arc_value game.now)) }
-{
-    observer.sees(Stage::Searching {
-        vertices: game.vertices(),
-    });
-    require_board(game, options.board)?;
-    if let Some(marks) = guessed_winners(rt, alloc, game, options.workers, observer.gauge()) {
-        return Ok(marks);
-    }
-    match solve_seen(rt, alloc, game, options, &NoGate, observer) {
-        Ok(settled) => winners(alloc, game, &settled),
-        Err(error) => Err(error),
-    }
-}
-
-/// Evidence of all that each player wins: that which is guessed, where it is found good; else that of the least progress tables.
-///
-/// # Errors
-/// Those of `winners_by`, and E5.
+/// Those of `solve_seen`, U4 and E5.
 pub(crate) fn evidence_by<
     O: Observer + Sync,
     H: Threads + Wait + Clone + Copy + Drop + Send + Sync,
@@ -72,22 +42,16 @@ pub(crate) fn evidence_by<
     ensures board { IfOk result (λ _. FitsBoard (Some options.now.board) (arc_value game.now)) }
     ensures refusal { IfErr result (IsUnproved options.now.board (arc_value game.now)) }
 {
-    observer.sees(Stage::Searching {
-        vertices: game.vertices(),
-    });
-    match require_board(game, options.board) {
-        Ok(()) => match certified_evidence(
-            rt,
-            alloc,
-            game,
-            options.workers as usize,
-            observer.gauge(),
-        ) {
-            Some(pair) => Ok(pair),
-            None => evidence_by_lifting(rt, alloc, game, options, observer),
-        },
-        Err(error) => Err(error),
+    if !options.board.is_named() {
+        observer.sees(Stage::Searching {
+            vertices: game.vertices(),
+        });
+        let workers = options.workers as usize;
+        if let Some(pair) = certified_evidence(rt, alloc, game, workers, observer.gauge()) {
+            return Ok(pair);
+        }
     }
+    evidence_by_lifting(rt, alloc, game, options, observer)
 }
 
 /// That of the least progress tables.
@@ -102,7 +66,7 @@ fn evidence_by_lifting<O: Observer + Sync, H: Threads + Wait + Clone + Copy + Dr
     ensures board { IfOk result (λ _. FitsBoard (Some options.now.board) (arc_value game.now)) }
     ensures refusal { IfErr result (IsUnproved options.now.board (arc_value game.now)) }
 {
-    match solve_seen(rt, alloc, game, options, &NoGate, observer) {
+    match solve_seen(rt, alloc, game, options, &NoGate, observer, None) {
         Ok(settled) => least_evidence(alloc, game, &settled),
         Err(error) => Err(error),
     }

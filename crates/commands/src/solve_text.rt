@@ -1,6 +1,6 @@
 // The engine of the command `solve`.
 
-ghost use Rattle.std.specs.Prelude.{◌≡◌, ℕ, IfErr, false, true, List, Some, Ok, Err, MatchResult};
+ghost use Rattle.std.specs.Prelude.{◌≡◌, ℕ, IfErr, false, true, List, Some, Ok, Err, MatchResult, length};
 ghost use Rattle.std.specs.Arc.{arc_value};
 ghost use Rattle.std.specs.Option.{is_some};
 ghost use Rattle.certify.specs.Pair.{AreFull};
@@ -12,11 +12,12 @@ ghost use Rattle.text.specs.Cause.{HasCause};
 ghost use Rattle.commands.specs.Causes.{game_unread};
 ghost use Rattle.commands.specs.Spelled.{IsGameOf};
 ghost use Rattle.commands.specs.Solves.{AnswersSolve, IsSolveText, Solves, solve_writers};
-ghost use Rattle.commands.specs.Winners.{AreWinners};
+ghost use Rattle.calculus.specs.Meaning.{MarksOf};
 ghost use Rattle.game.specs.Game.{Game};
+ghost use Rattle.game.specs.Wins.{Wins};
 
-use crate::solution::{evidence_by, winners_by};
-use crate::winner_text::{even_marks, write_winners};
+use crate::solution::evidence_by;
+use crate::winner_text::{are_winners, even_marks, write_winners};
 use certify::pair::EvidencePair;
 use evidence::writer::write_evidence;
 use game::graph::Game;
@@ -25,14 +26,15 @@ use measures::observer::{Observer, Silent, Stage};
 use pgsolver::read_game;
 use requests::error::MuError;
 use requests::request::{Options, Solve};
+use requests::solver::winners_by;
 use std::alloc::Global;
 use std::sync::{Arc, Wait};
 use std::thread::Threads;
 use text::sink::Sink;
 use text::source::Source;
 
-/// Writes who wins each vertex of the game that a text spells, and how many of them Even wins. The answer is true. The game is
-/// solved by the workers and over the board of the options.
+/// Writes who wins each vertex of the game that a text spells, and how many of them Even wins. The answer is true. Over a board that the
+/// options name the workers lift; else evidence of both players is guessed and tested, and they lift where none is good.
 ///
 /// # Errors
 /// Those of the reader, unchanged; T1 where the packed board is asked for and can't be had, and only there; T2, V1 and U4 for
@@ -163,11 +165,12 @@ fn solve_and_write<
 
 /// Writes who wins each vertex.
 fn put_winners<W: Sink>(game: &Game, marks: &[bool], out: &mut W) -> Result<bool, MuError>
-    requires { AreWinners game.now marks.now }
+    requires { MarksOf (length game.now.vertices) marks.now (Wins game.now) }
     ensures answers { (board : BoardKind) (text : List ℕ) → IsGameOf text game.now → FitsBoard (Some board) game.now
         → AnswersSolve board text (report_writer Whole (W.taken out.old) (W.taken out.new)) result }
     ensures cause { IfErr result (HasCause false game_unread) }
 {
+    are_winners(game, marks);
     answer(write_winners(marks, out))
 }
 

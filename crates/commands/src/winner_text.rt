@@ -1,60 +1,32 @@
 // Who wins each vertex of a game, and the text of it.
 
-ghost use Rattle.std.specs.Prelude.{◌≡◌, ◌++◌, length, count_by, decimal, IfErr, IfOk, IfSome};
+ghost use Rattle.std.specs.Prelude.{◌≡◌, ◌++◌, length, count_by, decimal, IfErr, IfOk};
 ghost use Rattle.text.specs.Wrote.{Wrote};
 ghost use Rattle.calculus.specs.Meaning.{MarksOf};
 ghost use Rattle.certify.specs.Full.{IsFull};
 ghost use Rattle.game.specs.Wins.{Wins};
 ghost use Rattle.commands.specs.Winners.{AreWinners, even_or_odd, sizes_text, winner_lines, winners_text as text_of};
 
-use certify::decide::{certified_winners, set_marks};
+use certify::decide::set_marks;
 use evidence::evidence::Evidence;
 use game::graph::Game;
 use game::player::Player;
-use gauge::Gauge;
 use laws::games::{not_both_win, one_wins};
 use lts::{Piece, WriteFault, put, put_number, put_pieces};
-use measures::settle::even_wins;
-use measures::table::Settled;
 use requests::error::MuError;
 use std::alloc::{AllocError, Global};
-use std::thread::Threads;
 use text::batch::{Lines, put_lines};
 use text::sink::Sink;
 
-/// A mark for each vertex of a solved game, true where Even wins it.
-///
-/// # Errors
-/// U4.
-pub(crate) fn winners(alloc: Global, game: &Game, settled: &Settled) -> Result<Vec<bool>, MuError>
-    requires { settled.now.game ≡ game.now }
-    ensures exact { IfOk result (λ marks. AreWinners game.now marks.items) }
-    ensures refusal { IfErr result (λ e. e ≡ MuError.Memory) }
+/// Where all that Even wins is marked, and no more, Odd wins the other vertices.
+pub(crate) fn are_winners(game: &Game, marks: &[bool])
+    requires { MarksOf (length game.now.vertices) marks.now (Wins game.now) }
+    ensures { AreWinners game.now marks.now }
 {
+    let _ = marks;
     game.known();
     not_both_win();
     one_wins();
-    match marks_of(alloc, game, settled) {
-        Ok(marks) => Ok(marks),
-        Err(AllocError) => Err(MuError::Memory),
-    }
-}
-
-/// A mark for each vertex, true where Even wins it, by evidence of both players that was guessed, and by so many threads where the
-/// game is large. There is none where none is found. A gauge shows how far the guess has come.
-pub(crate) fn guessed_winners<R: Threads + Sync>(
-    rt: &R,
-    alloc: Global,
-    game: &Game,
-    workers: u32,
-    gauge: Option<&Gauge>,
-) -> Option<Vec<bool>>
-    ensures { IfSome result (λ marks. AreWinners game.now marks.items) }
-{
-    game.known();
-    not_both_win();
-    one_wins();
-    certified_winners(rt, alloc, game, workers as usize, gauge)
 }
 
 /// A mark for each vertex, true where Even wins it, by evidence of all that Even wins.
@@ -74,19 +46,6 @@ pub(crate) fn even_marks(alloc: Global, game: &Game, even: &Evidence) -> Result<
         Ok(marks) => Ok(marks),
         Err(AllocError) => Err(MuError::Memory),
     }
-}
-
-/// A mark for each vertex, true where Even wins it.
-fn marks_of(alloc: Global, game: &Game, settled: &Settled) -> Result<Vec<bool>, AllocError>
-    requires { settled.now.game ≡ game.now }
-    ensures { IfOk result (λ marks. MarksOf (length game.now.vertices) marks.items (Wins game.now)) }
-{
-    let vertices = game.vertices();
-    let mut marks = Vec::with_capacity(alloc, vertices as usize)?;
-    for v in 0..vertices {
-        marks.push(even_wins(settled, v))?;
-    }
-    Ok(marks)
 }
 
 /// Writes how many vertices there are, how many of them Even wins, and a line for each.

@@ -1,20 +1,21 @@
 // The files that a command writes beside its report.
 
-use crate::refusal::Refusal;
-use crate::same::{even_of, odd_of};
+use crate::output::Target;
+use crate::refusal::{Cause, Refusal};
+use crate::same::refused;
+use crate::told::FileName;
 use invocation::names::{EvidenceNames, is_drawing};
 use requests::error::MuError;
 use requests::request::{ReportForm, Wanted, WitnessForm};
 use requests::writers::Writers;
 use std::cell::OnceCell;
-use std::fs::File;
-use std::io;
 use std::io::{Error, ErrorKind, Write};
+use std::{fs, io};
 
 /// The names of both files of evidence, where a path is given.
 ///
 /// # Errors
-/// U4.
+/// U1 where something has the path's name that is neither a file nor a folder, as `/dev/full`; U4.
 pub fn evidence_names(
     rt: &HostRuntime,
     path: Option<&str>,
@@ -22,18 +23,16 @@ pub fn evidence_names(
     let Some(path) = path else {
         return Ok(None);
     };
+    if fs::metadata(rt, path).is_ok_and(|found| !found.is_file() && !found.is_dir()) {
+        let path = FileName(path);
+        return Err(Refusal::from(refused(format!(in rt.alloc();
+            "error: {path} of --evidence is no file, and {path}.even and {path}.odd would be made beside it\n"
+        ))));
+    }
     match EvidenceNames::of(rt.alloc(), path) {
         Ok(names) => Ok(Some(names)),
-        Err(_) => Err(Refusal::Told(MuError::Memory)),
+        Err(_) => Err(Refusal::from(MuError::Memory)),
     }
-}
-
-/// Where a text goes. What is written to the program's own output is put behind what stands there.
-#[derive(Drop)]
-enum Target {
-    File(File),
-    Output,
-    ErrorOutput,
 }
 
 /// The files that a command writes beside its report. Each is made when its own first byte is written.
@@ -43,11 +42,15 @@ pub struct Files<'a> {
     game_name: Option<&'a str>,
     evidence_names: Option<EvidenceNames>,
     witness_name: Option<&'a str>,
-    game: OnceCell<Target>,
-    even: OnceCell<Target>,
-    odd: OnceCell<Target>,
-    witness: OnceCell<Target>,
-    refusal: OnceCell<Refusal>,
+    fault: OnceCell<Fault>,
+}
+
+/// What failed of one of them.
+#[derive(Drop)]
+struct Fault {
+    cause: Option<Cause>,
+    /// It could not be made.
+    is_unmade: bool,
 }
 
 /// One of them, as a writer.
@@ -55,7 +58,7 @@ pub struct Files<'a> {
 pub struct FileWriter<'a> {
     all: &'a Files<'a>,
     name: Option<&'a str>,
-    own: &'a OnceCell<Target>,
+    target: Option<Target>,
 }
 
 impl<'a> Files<'a> {
@@ -71,11 +74,7 @@ impl<'a> Files<'a> {
             game_name,
             evidence_names,
             witness_name,
-            game: OnceCell::new(),
-            even: OnceCell::new(),
-            odd: OnceCell::new(),
-            witness: OnceCell::new(),
-            refusal: OnceCell::new(),
+            fault: OnceCell::new(),
         }
     }
 
@@ -95,12 +94,14 @@ impl<'a> Files<'a> {
 
     /// The file of Even's evidence.
     pub fn even(&'a self) -> FileWriter<'a> {
-        self.writer(even_of(self.evidence_names.as_ref()), &self.even)
+        let names = self.evidence_names.as_ref();
+        self.writer(names.map(|names| names.even.as_str()))
     }
 
     /// The file of Odd's evidence.
     pub fn odd(&'a self) -> FileWriter<'a> {
-        self.writer(odd_of(self.evidence_names.as_ref()), &self.odd)
+        let names = self.evidence_names.as_ref();
+        self.writer(names.map(|names| names.odd.as_str()))
     }
 
     /// A writer for each of them, and that of the report.
@@ -109,68 +110,64 @@ impl<'a> Files<'a> {
         report: W,
     ) -> Writers<FileWriter<'a>, FileWriter<'a>, FileWriter<'a>, FileWriter<'a>, W> {
         Writers {
-            game: self.writer(self.game_name, &self.game),
+            game: self.writer(self.game_name),
             even: self.even(),
             odd: self.odd(),
-            witness: self.writer(self.witness_name, &self.witness),
+            witness: self.writer(self.witness_name),
             report,
         }
     }
 
-    fn writer(&'a self, name: Option<&'a str>, own: &'a OnceCell<Target>) -> FileWriter<'a> {
+    fn writer(&'a self, name: Option<&'a str>) -> FileWriter<'a> {
         FileWriter {
             all: self,
             name,
-            own,
+            target: None,
         }
     }
 
-    /// Why one of them could not be made.
-    pub fn into_refusal(mut self) -> Option<Refusal> {
-        self.refusal.take()
-    }
-
-    fn make(&self, place: &OnceCell<Target>, name: &str) -> io::Result<()> {
-        match self.target(name) {
-            Ok(target) => {
-                // One that is made already stays.
-                let _ = place.set(target);
-                Ok(())
+    /// The answer of a run, or its refusal: where one of them could not be made, that, and of one that could not be written what the system says.
+    pub fn conclude(mut self, answer: Result<bool, Refusal>) -> Result<bool, Refusal> {
+        match (answer, self.fault.take()) {
+            (Err(refusal), Some(Fault { cause, is_unmade })) => {
+                let error = if is_unmade {
+                    MuError::File
+                } else {
+                    refusal.into_error()
+                };
+                Err(Refusal { error, cause })
             }
-            // It is tried again, as a write is.
-            Err(error) if error.kind() == ErrorKind::Interrupted => Err(error),
-            Err(error) => {
-                let kind = error.kind();
-                let _ = self.refusal.set(Refusal::of_file(self.rt, name, error));
-                Err(Error::from(kind))
-            }
+            (answer, _) => answer,
         }
     }
 
-    fn target(&self, name: &str) -> io::Result<Target> {
-        match name {
-            "/dev/stdout" => Ok(Target::Output),
-            "/dev/stderr" => Ok(Target::ErrorOutput),
-            _ => Ok(Target::File(File::create(self.rt, name)?)),
+    /// The same error, of which what the system says is kept. It is tried again where it is an interruption.
+    fn keep(&self, name: &str, error: Error, is_unmade: bool) -> Error {
+        let kind = error.kind();
+        if kind != ErrorKind::Interrupted {
+            let cause = Cause::of(self.rt, name, error);
+            let _ = self.fault.set(Fault { cause, is_unmade });
         }
+        Error::from(kind)
     }
 }
 
 impl Write for FileWriter<'_> {
     fn write(&mut self, bytes: &[u8]) -> io::Result<usize> {
-        if let Some(name) = self.name
-            && self.own.get().is_none()
-        {
-            self.all.make(self.own, name)?;
+        let Some(name) = self.name else {
+            return Err(Error::from(ErrorKind::NotFound));
+        };
+        let all = self.all;
+        if self.target.is_none() {
+            let made = Target::named(all.rt, name);
+            self.target = Some(made.map_err(|error| all.keep(name, error, true))?);
         }
-        match self.own.get() {
-            Some(Target::File(file)) => {
-                let mut file = file;
-                file.write(bytes)
-            }
-            Some(Target::Output) => self.all.rt.stdout().write(bytes),
-            Some(Target::ErrorOutput) => self.all.rt.stderr().write(bytes),
-            None => Err(Error::from(ErrorKind::NotFound)),
+        match &self.target {
+            Some(target) => match target.write(all.rt, bytes) {
+                Err(error) => Err(all.keep(name, error, false)),
+                written => written,
+            },
+            None => Ok(0),
         }
     }
 

@@ -5,11 +5,21 @@ use crate::refusal::Refusal;
 use gauge::Gauge;
 use invocation::inputs::is_standard_input;
 use lts::AutError;
+use measures::observer::Observer;
 use requests::error::MuError;
 use std::fs::File;
 use std::hash::RandomState;
 use std::io::{Read, Stdin};
+use std::sync::Wait;
+use std::time::Clock;
 use std::{fs, io};
+
+/// Takes those of the descriptors 0 to 2 that aren't open, as long as it is kept, so that no file that is opened later is taken for standard input
+/// or output: there is nothing to be read, and a write fails.
+pub fn take_descriptors(rt: &HostRuntime) -> [io::Result<File>; 3] {
+    let take = || File::open(rt, "/dev/null");
+    [take(), take(), take()]
+}
 
 /// Where a text comes from.
 #[derive(Drop)]
@@ -51,10 +61,7 @@ pub fn open(rt: &HostRuntime, name: &str) -> Result<Input, Refusal> {
 /// # Errors
 /// A8 where no seed can be had.
 pub fn label_hasher(rt: &HostRuntime) -> Result<RandomState, MuError> {
-    match RandomState::new(rt) {
-        Ok(hasher) => Ok(hasher),
-        Err(_) => Err(MuError::System(AutError::Read)),
-    }
+    RandomState::new(rt).map_err(|_| MuError::System(AutError::Read))
 }
 
 /// Whether there is a file of this name that can be read anew: neither standard input nor a pipe can.
@@ -89,7 +96,7 @@ pub struct CountedInput<'a> {
 
 impl<'a> CountedInput<'a> {
     /// The gauge is that of a line, if it is drawn.
-    pub fn new<T>(input: Input, line: &'a ProgressLine<'a, T>) -> CountedInput<'a> {
+    pub fn new<T: Wait + Clock>(input: Input, line: &'a ProgressLine<'a, T>) -> CountedInput<'a> {
         CountedInput {
             input,
             gauge: line.gauge(),

@@ -2,20 +2,19 @@
 // done where that is asked for.
 
 use crate::notes::note_all;
-use crate::stats::{Activity, Running, Stats, tell_name, tell_texts};
-use crate::told::Told;
+use crate::stats::{Activity, Running, Stats, game_told};
 use calculus::closed::Closed;
 use gauge::{Gauge, Reading};
-use hints::strange::{Word, strange_words};
+use hints::strange::strange_words;
 use lts::system::Lts;
 use measures::observer::{Observer, Stage};
 use requests::watch::Watcher;
-use std::alloc::Global;
+use std::alloc::{AllocError, Global};
 use std::io::{IsTerminal, Write};
 use std::sync::{Arc, Condvar, Mutex, Wait};
 use std::thread::{JoinHandle, Threads};
 use std::time::{Clock, Duration, Instant};
-use std::{io, thread};
+use std::{fmt, io, thread};
 
 /// How long a run may be until it has a line, in milliseconds.
 const FIRST: u64 = 2000;
@@ -27,11 +26,14 @@ const NEXT: u64 = 250;
 /// its own.
 const CLEAR: &[u8] = b"\x1b[A\r\x1b[K";
 
+/// What stands in front of the line: the terminal cuts what it has no room for, and doesn't go on in the next row.
+const CUT: &str = "\x1b[?7l";
+
+/// What stands behind it: other lines are not cut.
+const WHOLE: &str = "\x1b[?7h\n";
+
 /// How many bytes are a megabyte.
 const MEGABYTE: u64 = 1_000_000;
-
-/// How many hundredths a budget has.
-const HUNDREDTHS: u64 = 100;
 
 /// What has become of the line.
 #[derive(Drop)]
@@ -65,49 +67,30 @@ impl Place {
             over: Condvar::new(),
         }
     }
-
-    fn sees<T: Wait>(&self, handle: &T, step: Activity) {
-        *self.step.lock(handle) = step;
-        self.gauge.clear();
-    }
-
-    // What the line says of a step after so many seconds.
-    fn tell(&self, step: Activity, seconds: u64, told: &mut Told) {
-        told.words("mucheck: ");
-        tell_name(step, told);
-        self.tell_progress(step, told);
-        told.words(", ");
-        told.amount(seconds, " s\n");
-    }
-
-    // How far a step has come, where that is known.
-    fn tell_progress(&self, step: Activity, told: &mut Told) {
-        if let Some(reading) = self.gauge.reading() {
-            tell_reading(step, reading, told);
-        }
-    }
 }
 
-// What a gauge shows in a step, in the step's words.
-fn tell_reading(step: Activity, reading: Reading, told: &mut Told) {
-    let Reading { done, whole } = reading;
-    match step {
-        Activity::ReadingGame | Activity::Seen(Stage::ReadingSystem | Stage::ReadingFormula) => {
-            told.words(", ");
-            told.amount(done / MEGABYTE, " of ");
-            told.amount(whole / MEGABYTE, " MB");
+// How far a step has come, in its words, where that is known.
+#[derive(Drop)]
+struct Progress {
+    step: Activity,
+    reading: Option<Reading>,
+}
+
+impl fmt::Display for Progress {
+    fn fmt<W: fmt::Write>(&self, f: &mut fmt::Formatter<W>) -> fmt::Result {
+        let Some(Reading { done, whole }) = self.reading else {
+            return Ok(());
+        };
+        match self.step {
+            Activity::ReadingGame | Activity::Seen(Stage::ReadingSystem | Stage::ReadingFormula) =>
+                { write!(f, ", {} of {} MB", done / MEGABYTE, whole / MEGABYTE) }
+            Activity::Seen(Stage::Building { .. }) => write!(f, ", {done} of {whole} vertices"),
+            Activity::Seen(Stage::Searching { .. }) => {
+                let spent = done.saturating_mul(100).checked_div(whole);
+                write!(f, ", {} % of the budget spent", spent.unwrap_or(0))
+            }
+            _ => Ok(()),
         }
-        Activity::Seen(Stage::Building { .. }) => {
-            told.words(", ");
-            told.amount(done, " of ");
-            told.amount(whole, " vertices");
-        }
-        Activity::Seen(Stage::Searching { .. }) => {
-            let spent = done.saturating_mul(HUNDREDTHS).checked_div(whole);
-            told.words(", ");
-            told.amount(spent.unwrap_or(0), " % of the budget spent");
-        }
-        _ => {}
     }
 }
 
@@ -136,15 +119,18 @@ fn tick<T: Wait + Clock>(rt: HostRuntime, handle: &T, place: &Place) {
 
 // Writes the line in place of the one that stands, if one does. Whether one stands afterwards.
 fn draw(rt: HostRuntime, place: &Place, step: Activity, is_drawn: bool, seconds: u64) -> bool {
-    let mut told = Told::none(rt.alloc());
-    place.tell(step, seconds, &mut told);
-    if !told.is_whole() {
+    let reading = place.gauge.reading();
+    let progress = Progress { step, reading };
+    let line: Result<String, AllocError> = format!(in rt.alloc();
+        "{CUT}mucheck: {step}{progress}, {seconds} s{WHOLE}"
+    );
+    let Ok(line) = line else {
         return is_drawn;
-    }
+    };
     if is_drawn && rt.stderr().write_all(CLEAR).is_err() {
         return false;
     }
-    rt.stderr().write_all(told.bytes()).is_ok()
+    rt.stderr().write_all(line.as_bytes()).is_ok()
 }
 
 /// What a check tells while it runs.
@@ -195,53 +181,28 @@ impl<'a, T: Threads + Wait + Clock + Clone + Copy + Drop + Send + Sync + 'static
     }
 }
 
-impl<T> ProgressLine<'_, T> {
-    /// What shows how far the step at hand has come, where the line is drawn.
-    pub(crate) fn gauge(&self) -> Option<&Gauge> {
-        match &self.place {
-            Some(place) => Some(&place.gauge),
-            None => None,
-        }
-    }
-}
-
 impl<T: Wait> ProgressLine<'_, T> {
     /// Takes the line away for good.
     pub fn end(&self) {
         if let Some(place) = &self.place {
             let mut screen = place.screen.lock(self.handle);
             screen.is_over = true;
-            if screen.is_drawn {
-                screen.is_drawn = false;
-                // Where standard error fails, there is nobody to tell.
-                let _ = self.rt.stderr().write_all(CLEAR);
-            }
+            // Where standard error fails, there is nobody to tell.
+            let _ = self.clear(&mut screen);
             place.over.notify_all();
         }
     }
 
-    // Writes notes, where the line stood if there is one.
-    fn note(&self, words: &[Word<'_>]) -> io::Result<()> {
-        match &self.place {
-            Some(place) => {
-                let mut screen = place.screen.lock(self.handle);
-                self.clear(&mut screen)?;
-                note_all(self.rt, self.name, words)
-            }
-            None => note_all(self.rt, self.name, words),
-        }
-    }
-
-    // Writes a text, where the line stood if there is one.
-    fn tell(&self, text: &[u8]) -> io::Result<()> {
-        match &self.place {
-            Some(place) => {
-                let mut screen = place.screen.lock(self.handle);
-                self.clear(&mut screen)?;
-                self.rt.stderr().write_all(text)
-            }
-            None => self.rt.stderr().write_all(text),
-        }
+    // Writes where the line stood if there is one.
+    fn write_alone<F: FnOnce() -> io::Result<()>>(&self, write: F) -> io::Result<()>
+        requires { F.IsAlwaysCallable write }
+    {
+        let Some(place) = &self.place else {
+            return write();
+        };
+        let mut screen = place.screen.lock(self.handle);
+        self.clear(&mut screen)?;
+        write()
     }
 
     fn clear(&self, screen: &mut Screen) -> io::Result<()> {
@@ -268,7 +229,12 @@ impl<T: Wait + Clock> ProgressLine<'_, T> {
     /// The step begins, or goes on; what went on before has ended.
     pub fn step(&self, step: Activity) {
         if let Some(place) = &self.place {
-            place.sees(self.handle, step);
+            *place.step.lock(self.handle) = step;
+            place.gauge.clear();
+        }
+        // (a file that is written may be a terminal)
+        if matches!(step, Activity::Seen(Stage::Writing)) {
+            self.end();
         }
         if self.stats.are_told() {
             self.begin(step);
@@ -278,10 +244,13 @@ impl<T: Wait + Clock> ProgressLine<'_, T> {
     fn begin(&self, step: Activity) {
         let mut running = self.running.lock(self.handle);
         *running = match *running {
-            Some(now) if now.goes_on(step) => Some(now.at(step)),
+            Some(Running { step: now, since }) if now.goes_on(step) => {
+                Some(Running { step, since })
+            }
             before => {
                 self.tell_ended(before);
-                Running::new(self.handle, step)
+                let now = Instant::now(self.handle).ok();
+                now.map(|since| Running { step, since })
             }
         };
     }
@@ -293,36 +262,35 @@ impl<T: Wait + Clock> ProgressLine<'_, T> {
         *running = None;
     }
 
-    fn tell_texts(&self, system: &Lts, formula: &Closed) {
-        let mut told = Told::none(self.rt.alloc());
-        tell_texts(self.rt.alloc(), self.stats, system, formula, &mut told);
-        if told.is_whole() {
+    // Writes what is told, if there was memory for it.
+    fn tell_made(&self, told: Option<String>) {
+        if let Some(told) = told {
             // Where standard error fails, there is nobody to tell.
-            let _ = self.tell(told.bytes());
+            let _ = self.write_alone(|| self.rt.stderr().write_all(told.as_bytes()));
         }
     }
 
     fn tell_ended(&self, ended: Option<Running>) {
         if let Some(ended) = ended {
-            let mut told = Told::none(self.rt.alloc());
-            if ended.tell(self.rt, self.handle, &mut told) {
-                // Where standard error fails, there is nobody to tell.
-                let _ = self.tell(told.bytes());
-            }
+            self.tell_made(ended.ended(self.rt, self.handle));
         }
     }
 }
 
 impl<T: Wait + Clock> Observer for ProgressLine<'_, T> {
     fn sees(&self, stage: Stage) {
-        self.step(Activity::Seen(stage));
+        match stage {
+            Stage::Worked { .. } if self.stats.are_told() => {
+                let worked = Activity::Seen(stage);
+                self.tell_made(format!(in self.rt.alloc(); "mucheck: {worked}\n").ok());
+            }
+            Stage::Worked { .. } => {}
+            _ => self.step(Activity::Seen(stage)),
+        }
     }
 
     fn gauge(&self) -> Option<&Gauge> {
-        match &self.place {
-            Some(place) => Some(&place.gauge),
-            None => None,
-        }
+        self.place.as_ref().map(|place| &place.gauge)
     }
 }
 
@@ -330,43 +298,18 @@ impl<T: Wait + Clock> Watcher for ProgressLine<'_, T> {
     fn has_read(&self, system: &Lts, formula: &Closed) {
         if self.stats.are_told() {
             self.end_steps();
-            self.tell_texts(system, formula);
+            let (states, transitions) = (system.states(), system.transitions());
+            let alloc = self.rt.alloc();
+            self.tell_made(format!(in alloc;
+                "mucheck: {states} states, {transitions} transitions\n"
+            ).ok());
+        }
+        if let Stats::StagesAndGame(rule) = self.stats {
+            self.tell_made(game_told(self.rt.alloc(), system, formula, rule));
         }
         if let Ok(words) = strange_words(self.rt.alloc(), system, formula) {
             // Where standard error fails, there is nobody to tell.
-            let _ = self.note(&words);
+            let _ = self.write_alone(|| note_all(self.rt, self.name, system, &words));
         }
-    }
-}
-
-/// Where the report goes: to standard output, before whose first byte the line is taken away if it is a terminal too.
-#[derive(Drop)]
-pub struct Output<'a, T> {
-    rt: HostRuntime,
-    line: &'a ProgressLine<'a, T>,
-    /// Standard output is a terminal.
-    is_shown: bool,
-}
-
-impl<'a, T> Output<'a, T> {
-    pub fn new(rt: HostRuntime, line: &'a ProgressLine<'a, T>) -> Output<'a, T> {
-        Output {
-            rt,
-            line,
-            is_shown: rt.stdout().is_terminal(),
-        }
-    }
-}
-
-impl<T: Wait> Write for Output<'_, T> {
-    fn write(&mut self, bytes: &[u8]) -> io::Result<usize> {
-        if self.is_shown {
-            self.line.end();
-        }
-        io::writer(&self.rt).write(bytes)
-    }
-
-    fn flush(&mut self) -> io::Result<()> {
-        Ok(())
     }
 }

@@ -1,212 +1,244 @@
 // What is told of a refusal on standard error.
 
-use crate::sight::{Location, Sight, sight_at};
-use crate::told::say;
+use crate::notes::is_near;
+use crate::sight::{Finding, NOTHING_FOUND, find};
+use crate::told::{FileName, say};
 use invocation::codes::code_entry;
+use invocation::inputs::is_standard_input;
 use invocation::request::Command;
-use requests::error::MuError;
-use std::io;
-use std::io::ErrorKind;
+use requests::error::{ArgumentError, MuError};
+use std::fs::File;
+use std::io::{ErrorKind, Read};
+use std::{fs, io};
+
+/// Where a tip begins.
+const TIP: &str = "\n\n  tip: ";
+
+/// The codes of a read that failed.
+const READ_FAULTS: [&str; 4] = ["A8", "U3", "G7", "E4"];
+
+/// What the system says of a file, or of standard output.
+#[derive(Drop)]
+pub(crate) struct Cause {
+    name: String,
+    error: io::Error,
+}
+
+impl Cause {
+    /// None where there is no memory.
+    pub(crate) fn of(rt: &HostRuntime, name: &str, error: io::Error) -> Option<Cause> {
+        let name = String::from_str(rt.alloc(), name).ok()?;
+        Some(Cause { name, error })
+    }
+}
 
 /// Why there is no answer.
 #[derive(Drop)]
-pub enum Refusal {
-    Told(MuError),
-    /// The file of this name could not be opened or made.
-    File(String, io::Error),
+pub struct Refusal {
+    pub(crate) error: MuError,
+    pub(crate) cause: Option<Cause>,
 }
 
 impl Refusal {
-    /// A file of this name could not be opened or made.
-    pub fn of_file(rt: &HostRuntime, name: &str, error: io::Error) -> Refusal {
-        match String::from_str(rt.alloc(), name) {
-            Ok(name) => Refusal::File(name, error),
-            Err(_) => Refusal::Told(MuError::File),
+    /// A file of this name could not be opened.
+    pub fn of_file(rt: &HostRuntime, name: &str, why: io::Error) -> Refusal {
+        Refusal {
+            error: MuError::File,
+            cause: Cause::of(rt, name, why),
         }
     }
 
     /// What the exit status goes by.
     pub fn into_error(self) -> MuError {
-        match self {
-            Refusal::Told(error) => error,
-            Refusal::File(_, _) => MuError::File,
-        }
+        self.error
     }
 }
 
 impl From<MuError> for Refusal {
     fn from(error: MuError) -> Refusal {
-        Refusal::Told(error)
+        Refusal { error, cause: None }
     }
 }
 
-/// The files that a command reads, by what they hold.
-#[derive(Clone, Copy)]
-pub struct Sources<'a> {
-    system: Option<&'a str>,
-    formula: Option<&'a str>,
-    game: Option<&'a str>,
-    evidence: Option<&'a str>,
-    other: Option<&'a str>,
-    schedule: Option<&'a str>,
-}
+/// The files that a command reads: the system or the game, the formula, the evidence or the schedule, and the other evidence. A table's formulas aren't
+/// among them.
+pub type Sources<'a> = [Option<&'a str>; 4];
 
 /// Those of a command that reads none.
-pub const NO_SOURCES: Sources<'static> = Sources {
-    system: None,
-    formula: None,
-    game: None,
-    evidence: None,
-    other: None,
-    schedule: None,
-};
+pub const NO_SOURCES: Sources<'static> = [None, None, None, None];
 
-impl<'a> Sources<'a> {
-    /// That of a formula alone.
-    pub fn of_formula(name: &'a str) -> Sources<'a> {
-        Sources {
-            formula: Some(name),
-            ..NO_SOURCES
-        }
-    }
-
-    /// Those of a command.
-    pub fn of(command: &Command<'a>) -> Sources<'a> {
-        let mut sources = NO_SOURCES;
-        match command {
-            Command::Check(check, _) => {
-                sources.system = Some(check.system);
-                sources.formula = Some(check.formula);
-            }
-            Command::Why(why) => {
-                sources.system = Some(why.system);
-                sources.formula = Some(why.formula);
-            }
-            Command::Table(table) => sources.system = Some(table.system),
-            Command::Normal(normal) => sources.formula = Some(normal.formula),
-            Command::Solve(solve) => sources.game = Some(solve.game),
-            Command::Verify(verify) => {
-                sources.game = Some(verify.game);
-                sources.evidence = Some(verify.evidence);
-                sources.other = verify.other;
-            }
-            Command::Replay(replay) => {
-                sources.system = Some(replay.system);
-                sources.formula = Some(replay.formula);
-                sources.schedule = Some(replay.schedule);
-            }
-            Command::Explain(_) | Command::Help(_) | Command::Version => {}
-        }
-        sources
-    }
-
-    /// The file that a refusal speaks of, or both where it is one of two.
-    fn refused(&self, error: &MuError) -> (Option<&'a str>, Option<&'a str>) {
-        match error {
-            MuError::System(_) => (self.system, None),
-            MuError::Formula(_) | MuError::NoLabel { .. } => (self.formula, None),
-            MuError::Read => (self.formula, self.schedule),
-            MuError::Game(_) => (self.game, None),
-            MuError::Evidence(_) => (self.evidence, self.other),
-            MuError::Schedule(_) => (self.schedule, None),
-            _ => (None, None),
-        }
+/// Those of a command.
+pub fn sources_of<'a>(command: &Command<'a>) -> Sources<'a> {
+    match command {
+        Command::Check(check, _) => [Some(check.system), Some(check.formula), None, None],
+        Command::Why(why) => [Some(why.system), Some(why.formula), None, None],
+        Command::Table(table) => [Some(table.system), None, None, None],
+        Command::Normal(normal) => [None, Some(normal.formula), None, None],
+        Command::Solve(solve) => [Some(solve.game), None, None, None],
+        Command::Verify(verify) => [Some(verify.game), None, Some(verify.evidence), verify.other],
+        Command::Replay(replay) => [
+            Some(replay.system),
+            Some(replay.formula),
+            Some(replay.schedule),
+            None,
+        ],
+        Command::Explain(_) | Command::Help(_) | Command::Version => NO_SOURCES,
     }
 }
 
-/// Tells a refusal: a line with the code and the place; which file it speaks of, and the line of its text; what is to be done. After wrong
-/// arguments, what is wrong with them, or the help.
+/// The file that a refusal speaks of, or both where it is one of two.
+fn refused<'a>(sources: &Sources<'a>, error: &MuError) -> (Option<&'a str>, Option<&'a str>) {
+    let [main, formula, evidence, other] = *sources;
+    match error {
+        MuError::System(_) | MuError::Game(_) => (main, None),
+        MuError::Formula(_) | MuError::NoLabel { .. } => (formula, None),
+        MuError::Read => (formula, evidence),
+        MuError::Evidence(_) => (evidence, other),
+        MuError::Schedule(_) => (evidence, None),
+        _ => (None, None),
+    }
+}
+
+/// Tells a refusal: a line with the code and the place; which file it speaks of, and the line of its text; what is wrong, and what is to be done. After
+/// wrong arguments, what is wrong with them, or the help.
 pub fn tell(rt: &HostRuntime, sources: &Sources<'_>, refusal: &Refusal) -> io::Result<()> {
-    match refusal {
-        Refusal::Told(MuError::Arguments(argument)) => eprint!(rt; "mucheck: U1\n{argument}"),
-        Refusal::Told(error) => {
+    let Refusal { error, cause } = refusal;
+    match error {
+        MuError::Arguments(ArgumentError::Refused(text)) => tell_wrong_words(rt, text.as_str()),
+        MuError::Arguments(argument) => eprint!(rt; "mucheck: U1\n{argument}"),
+        _ => {
             eprintln!(rt; "mucheck: {error}")?;
-            tell_more(rt, sources, error)
-        }
-        Refusal::File(name, error) => {
-            eprintln!(rt; "mucheck: U2\nmucheck: {name}: {error}")?;
-            tell_remedy(rt, "U2")
+            match error.to_string(rt.alloc()) {
+                Ok(text) => tell_rest(rt, refused(sources, error), text.as_str(), cause.as_ref()),
+                // Where there is no memory, the line with the code stands alone.
+                Err(_) => Ok(()),
+            }
         }
     }
 }
 
-fn tell_more(rt: &HostRuntime, sources: &Sources<'_>, error: &MuError) -> io::Result<()> {
-    match error.to_string(rt.alloc()) {
-        Ok(text) => tell_rest(rt, sources.refused(error), text.as_str()),
-        // Where there is no memory, the line with the code stands alone.
-        Err(_) => Ok(()),
+/// Tells what is wrong with the words of a command line, without a tip, and the usage that goes with it, unless it names what is near to one of them.
+fn tell_wrong_words(rt: &HostRuntime, text: &str) -> io::Result<()> {
+    say(rt, &["mucheck: U1\n"])?;
+    match text.split_once(TIP) {
+        Some((wrong, rest)) if !names_near(wrong, rest) => match rest.rsplit_once("\n\n") {
+            Some((_, end)) => say(rt, &[wrong, "\n\n", end]),
+            None => say(rt, &[wrong, "\n"]),
+        },
+        _ => say(rt, &[text]),
     }
+}
+
+/// Whether what both name between quotes is made of each other by two edits, and isn't the same.
+fn names_near(wrong: &str, tip: &str) -> bool {
+    match (quoted(wrong), quoted(tip)) {
+        (Some(wrong), Some(near)) => wrong != near && is_near(wrong.as_bytes(), near.as_bytes(), 2),
+        _ => true,
+    }
+}
+
+/// What stands between the first quotes.
+fn quoted(text: &str) -> Option<&str> {
+    let (_, rest) = text.split_once("'")?;
+    let (name, _) = rest.split_once("'")?;
+    Some(name)
 }
 
 /// What follows the line of this text.
-fn tell_rest(rt: &HostRuntime, files: (Option<&str>, Option<&str>), text: &str) -> io::Result<()> {
+fn tell_rest(
+    rt: &HostRuntime,
+    files: (Option<&str>, Option<&str>),
+    text: &str,
+    cause: Option<&Cause>,
+) -> io::Result<()> {
     let (code, words) = match text.split_once(" at ") {
         Some((code, words)) => (code, Some(words)),
         None => (text, None),
     };
-    match files {
-        (None, _) => tell_remedy(rt, code),
-        (Some(first), Some(second)) => {
-            tell_either(rt, first, second, words)?;
-            tell_remedy(rt, code)
-        }
-        (Some(name), None) => tell_in_file(rt, code, name, words),
+    if let Some(Cause { name, error }) = cause {
+        return tell_cause(rt, code, name.as_str(), error);
     }
-}
-
-/// Tells in which one of two files it may be.
-fn tell_either(rt: &HostRuntime, first: &str, second: &str, words: Option<&str>) -> io::Result<()> {
-    match words {
-        Some(words) => say(
-            rt,
-            &["mucheck: in ", first, " or ", second, ", ", words, "\n"],
-        ),
-        None => say(rt, &["mucheck: in ", first, " or ", second, "\n"]),
-    }
-}
-
-/// Tells in which file it is and where, shows its line, and tells what is to be done.
-fn tell_in_file(rt: &HostRuntime, code: &str, name: &str, words: Option<&str>) -> io::Result<()> {
-    let Some(words) = words else {
-        say(rt, &["mucheck: in ", name, "\n"])?;
-        return tell_remedy(rt, code);
-    };
-    match look_at(rt, name, words) {
-        Ok(Some(sight)) => tell_sight(rt, code, name, &sight),
-        // Where there is no memory, the line with the code stands alone.
-        Err(error) if error.kind() == ErrorKind::OutOfMemory => Ok(()),
-        _ => {
-            say(rt, &["mucheck: in ", name, ", ", words, "\n"])?;
-            tell_remedy(rt, code)
+    for name in [files.0, files.1].into_iter().flatten() {
+        if READ_FAULTS.contains(&code)
+            && let Some(error) = unreadable(rt, name)
+        {
+            return tell_cause(rt, code, name, &error);
         }
     }
+    tell_in_files(rt, code, files, words)
 }
 
-/// What stands at the place that these words name in a file.
-fn look_at(rt: &HostRuntime, name: &str, words: &str) -> io::Result<Option<Sight>> {
-    match Location::in_words(words) {
-        Some(place) => sight_at(rt, name, place),
-        None => Ok(None),
-    }
-}
-
-/// Tells what is seen of a file, and what is to be done about it.
-fn tell_sight(rt: &HostRuntime, code: &str, name: &str, sight: &Sight) -> io::Result<()> {
-    let line = sight.line;
-    match sight.column {
-        Some(column) => eprintln!(rt; "mucheck: in {name}:{line}:{column}")?,
-        None => eprintln!(rt; "mucheck: in {name}:{line}")?,
-    }
-    sight.tell(rt)?;
-    match sight.remedy {
-        Some(remedy) => say(rt, &["mucheck: ", remedy, "\n"]),
-        None => tell_remedy(rt, code),
-    }
-}
-
-fn tell_remedy(rt: &HostRuntime, code: &str) -> io::Result<()> {
+/// What the system says of a file, and what is to be done.
+fn tell_cause(rt: &HostRuntime, code: &str, name: &str, error: &io::Error) -> io::Result<()> {
+    eprintln!(rt; "mucheck: {}: {error}", FileName(name))?;
     match code_entry(code) {
         Some(entry) => say(rt, &["mucheck: ", entry.remedy, "\n"]),
         None => Ok(()),
     }
+}
+
+/// Why a file or a folder can't be read, where that shows again.
+fn unreadable(rt: &HostRuntime, name: &str) -> Option<io::Error> {
+    let found = fs::metadata(rt, name).ok()?;
+    if is_standard_input(name) || !(found.is_file() || found.is_dir()) {
+        return None;
+    }
+    let mut file = File::open(rt, name).ok()?;
+    file.read(&mut [0]).err()
+}
+
+/// Tells in which file it is, or of which of two, and where, what is wrong and what is to be done.
+fn tell_in_files(
+    rt: &HostRuntime,
+    code: &str,
+    files: (Option<&str>, Option<&str>),
+    words: Option<&str>,
+) -> io::Result<()> {
+    match (files, words) {
+        ((Some(name), None), Some(words)) => return tell_at(rt, code, name, words),
+        ((Some(name), None), None) => eprintln!(rt; "mucheck: in {}", FileName(name))?,
+        ((Some(name), Some(other)), words) => {
+            eprint!(rt; "mucheck: in {} or {}", FileName(name), FileName(other))?;
+            match words {
+                Some(words) => eprintln!(rt; ", {words}")?,
+                None => say(rt, &["\n"])?,
+            }
+        }
+        ((None, _), _) => {}
+    }
+    tell_end(rt, code, NOTHING_FOUND)
+}
+
+/// Tells where in a file it is, shows its line, and tells what is wrong and what is to be done.
+fn tell_at(rt: &HostRuntime, code: &str, name: &str, words: &str) -> io::Result<()> {
+    let found = match find(rt, code, name, words) {
+        // Where there is no memory, the line with the code stands alone.
+        Err(error) if error.kind() == ErrorKind::OutOfMemory => return Ok(()),
+        found => found.unwrap_or(NOTHING_FOUND),
+    };
+    let name = FileName(name);
+    match &found.sight {
+        Some(sight) => {
+            match (sight.line, sight.column) {
+                (line, Some(column)) => eprintln!(rt; "mucheck: in {name}:{line}:{column}")?,
+                (line, None) => eprintln!(rt; "mucheck: in {name}:{line}")?,
+            }
+            sight.tell(rt)?;
+        }
+        None => eprintln!(rt; "mucheck: in {name}, {words}")?,
+    }
+    tell_end(rt, code, found)
+}
+
+/// Tells what is wrong and what is to be done, as it was found or as the code says.
+fn tell_end(rt: &HostRuntime, code: &str, found: Finding) -> io::Result<()> {
+    let Some(entry) = code_entry(code) else {
+        return Ok(());
+    };
+    match &found.wrong {
+        Some(wrong) => eprintln!(rt; "mucheck: {}", wrong.as_str())?,
+        None => eprintln!(rt; "mucheck: {}", entry.wrong)?,
+    }
+    let remedy = found.remedy.unwrap_or(entry.remedy);
+    eprintln!(rt; "mucheck: {remedy}")
 }

@@ -1,71 +1,58 @@
 // The same file under two names: links, and names with other folders in front.
 
+use crate::refusal::sources_of;
+use crate::told::FileName;
 use invocation::inputs::is_standard_input;
 use invocation::names::{EvidenceNames, is_device, over_game};
 use invocation::request::{Command, Outputs};
 use requests::error::{ArgumentError, CheckFile, MuError};
 use requests::request::{Check, ReportForm, Solve};
-use std::alloc::{AllocError, Global};
+use std::alloc::AllocError;
 use std::fs;
 use std::io::ErrorKind;
 use std::os::unix::fs::MetadataExt;
 use std::path::Path;
 
-/// Where standard input comes from.
-const STANDARD_INPUT: &str = "/dev/stdin";
+/// How the names of pictures end.
+static PICTURES: [&str; 7] = [".svg", ".png", ".pdf", ".ps", ".jpg", ".jpeg", ".gif"];
 
-/// Where standard output goes.
-const STANDARD_OUTPUT: &str = "/dev/stdout";
+const NO_PICTURE: &str = "error: --witness writes no picture: name its file .dot, and draw that \
+by dot -Tsvg\n";
 
 /// What tells a file from every other one: its device and number or, where it isn't there yet, those of its folder with its name.
-#[derive(Clone, Copy, PartialEq, Eq)]
-struct Identity<'a> {
-    device: u64,
-    number: u64,
-    name: &'a str,
-}
+type Identity<'a> = (u64, u64, &'a str);
 
 /// A file of a command, with what it is, as far as the system tells.
 #[derive(Clone, Copy)]
 struct Place<'a> {
     file: CheckFile,
     identity: Option<Identity<'a>>,
+    /// It is the program's own output, to which any number of texts may go.
+    is_own: bool,
 }
 
-/// The file of Even's evidence, where evidence is asked for.
-pub(crate) fn even_of(evidence: Option<&EvidenceNames>) -> Option<&str> {
-    match evidence {
-        Some(names) => Some(names.even.as_str()),
-        None => None,
-    }
-}
-
-/// The file of Odd's.
-pub(crate) fn odd_of(evidence: Option<&EvidenceNames>) -> Option<&str> {
-    match evidence {
-        Some(names) => Some(names.odd.as_str()),
-        None => None,
-    }
-}
-
-/// Refuses a check that would write to a file twice, or to one that it reads, whatever their names are. What is no file, as a pipe or a
-/// terminal, has nothing that could be destroyed.
+/// Refuses a check that would write a picture, or to a file twice, or to one that it reads, whatever their names are. What is no file, as a pipe or
+/// a terminal, has nothing that could be destroyed.
 ///
 /// # Errors
-/// U1, with both files.
+/// U1, with both files; U4.
 pub fn keep_apart<'a>(
     rt: &HostRuntime,
     check: &Check<'a>,
     outputs: &Outputs<'a>,
     evidence: Option<&'a EvidenceNames>,
-) -> Result<(), ArgumentError> {
-    let (even, odd) = (even_of(evidence), odd_of(evidence));
+) -> Result<(), MuError> {
+    if outputs.witness.is_some_and(is_picture) {
+        return Err(refused(String::from_str(rt.alloc(), NO_PICTURE)));
+    }
+    let even = evidence.map(|names| names.even.as_str());
+    let odd = evidence.map(|names| names.odd.as_str());
     all_apart(
         &[
-            written(rt, CheckFile::Game, outputs.game),
-            written(rt, CheckFile::EvenEvidence, even),
-            written(rt, CheckFile::OddEvidence, odd),
-            written(rt, CheckFile::Witness, outputs.witness),
+            place_of(rt, CheckFile::Game, outputs.game),
+            place_of(rt, CheckFile::EvenEvidence, even),
+            place_of(rt, CheckFile::OddEvidence, odd),
+            place_of(rt, CheckFile::Witness, outputs.witness),
             reported(rt, outputs.report),
         ],
         &[
@@ -73,6 +60,16 @@ pub fn keep_apart<'a>(
             read(rt, CheckFile::Formula, check.formula),
         ],
     )
+    .map_err(MuError::Arguments)
+}
+
+/// Whether the name ends as that of a picture, which isn't written.
+fn is_picture(name: &str) -> bool {
+    let name = name.as_bytes();
+    PICTURES.iter().any(|ending| {
+        let start = name.len().saturating_sub(ending.len());
+        name[start..].eq_ignore_ascii_case(ending.as_bytes())
+    })
 }
 
 /// Refuses to solve a game where the same would be so.
@@ -84,10 +81,11 @@ pub fn keep_game_apart<'a>(
     solve: &Solve<'a>,
     evidence: Option<&'a EvidenceNames>,
 ) -> Result<(), MuError> {
-    let (even, odd) = (even_of(evidence), odd_of(evidence));
+    let even = evidence.map(|names| names.even.as_str());
+    let odd = evidence.map(|names| names.odd.as_str());
     let places = [
-        written(rt, CheckFile::EvenEvidence, even),
-        written(rt, CheckFile::OddEvidence, odd),
+        place_of(rt, CheckFile::EvenEvidence, even),
+        place_of(rt, CheckFile::OddEvidence, odd),
         reported(rt, ReportForm::Whole),
     ];
     let game = read(rt, CheckFile::Game, solve.game);
@@ -105,46 +103,35 @@ pub fn keep_game_apart<'a>(
 /// # Errors
 /// U1, with that file; U4.
 pub fn keep_answer_apart(rt: &HostRuntime, command: &Command<'_>) -> Result<(), MuError> {
-    match command {
-        Command::Why(why) => keep_unwritten(rt, &[why.system, why.formula]),
-        Command::Table(table) => keep_both_unwritten(rt, &[table.system], &table.formulas),
-        Command::Normal(normal) => keep_unwritten(rt, &[normal.formula]),
-        Command::Verify(verify) => {
-            let names = [verify.game, verify.evidence];
-            match verify.other {
-                Some(other) => keep_both_unwritten(rt, &names, &[other]),
-                None => keep_unwritten(rt, &names),
-            }
-        }
-        Command::Replay(replay) => {
-            keep_unwritten(rt, &[replay.system, replay.formula, replay.schedule])
-        }
-        _ => Ok(()),
+    if matches!(command, Command::Check(_, _) | Command::Solve(_)) {
+        return Ok(());
     }
-}
-
-/// Refuses to read these and those where the answer would go to one of them.
-fn keep_both_unwritten(rt: &HostRuntime, names: &[&str], others: &[&str]) -> Result<(), MuError> {
-    match keep_unwritten(rt, names) {
-        Ok(()) => keep_unwritten(rt, others),
-        Err(error) => Err(error),
+    for name in sources_of(command).into_iter().flatten() {
+        keep_unwritten(rt, name)?;
     }
-}
-
-/// Refuses to read these where the answer would go to one of them.
-fn keep_unwritten(rt: &HostRuntime, names: &[&str]) -> Result<(), MuError> {
-    let report = reported(rt, ReportForm::Whole);
-    for name in names {
-        if apart_from(&report, &[read(rt, CheckFile::Formula, name)]).is_err() {
-            return Err(over_input(rt.alloc(), name));
+    if let Command::Table(table) = command {
+        for name in &table.formulas {
+            keep_unwritten(rt, name)?;
         }
     }
     Ok(())
 }
 
-/// The refusal of an answer that would go to the file of this name, which is read.
-fn over_input(alloc: Global, name: &str) -> MuError {
-    match format!(in alloc; "error: standard output and {name} are the same file\n") {
+/// Refuses to read a file where the answer would go to it.
+fn keep_unwritten(rt: &HostRuntime, name: &str) -> Result<(), MuError> {
+    let report = reported(rt, ReportForm::Whole);
+    if apart_from(&report, &[read(rt, CheckFile::Formula, name)]).is_ok() {
+        return Ok(());
+    }
+    Err(refused(format!(in rt.alloc();
+        "error: standard output and {} are the same file\n",
+        FileName(name)
+    )))
+}
+
+/// The refusal of a command line with this text.
+pub(crate) fn refused(text: Result<String, AllocError>) -> MuError {
+    match text {
         Ok(text) => MuError::Arguments(ArgumentError::Refused(text)),
         Err(AllocError) => MuError::Memory,
     }
@@ -161,42 +148,35 @@ fn all_apart(written: &[Place<'_>], read: &[Place<'_>]) -> Result<(), ArgumentEr
 
 /// Where the report goes, in a form in which there is one.
 fn reported<'a>(rt: &HostRuntime, report: ReportForm) -> Place<'a> {
-    let identity = match report {
+    let name = match report {
         ReportForm::Nothing => None,
-        _ => identify(rt, STANDARD_OUTPUT),
+        _ => Some("/dev/stdout"),
     };
-    Place {
-        file: CheckFile::Report,
-        identity,
-    }
-}
-
-/// The place of a text that is written, where it is asked for. Any number of texts may go to a device.
-fn written<'a>(rt: &HostRuntime, file: CheckFile, name: Option<&'a str>) -> Place<'a> {
-    let identity = match name {
-        Some(name) if !is_device(name) => identify(rt, name),
-        _ => None,
-    };
-    Place { file, identity }
+    place_of(rt, CheckFile::Report, name)
 }
 
 /// The place of what is read under this name.
 fn read<'a>(rt: &HostRuntime, file: CheckFile, name: &'a str) -> Place<'a> {
-    let identity = if is_standard_input(name) {
-        identify(rt, STANDARD_INPUT)
-    } else {
-        identify(rt, name)
-    };
-    Place { file, identity }
+    let is_input = is_standard_input(name);
+    let name = if is_input { "/dev/stdin" } else { name };
+    Place {
+        is_own: false,
+        ..place_of(rt, file, Some(name))
+    }
+}
+
+/// The place of a text, where it is asked for.
+fn place_of<'a>(rt: &HostRuntime, file: CheckFile, name: Option<&'a str>) -> Place<'a> {
+    Place {
+        file,
+        identity: name.and_then(|name| identify(rt, name)),
+        is_own: name.is_some_and(is_device),
+    }
 }
 
 fn identify<'a>(rt: &HostRuntime, name: &'a str) -> Option<Identity<'a>> {
     match fs::metadata(rt, name) {
-        Ok(found) if found.is_file() => Some(Identity {
-            device: found.dev(),
-            number: found.ino(),
-            name: "",
-        }),
+        Ok(found) if found.is_file() => Some((found.dev(), found.ino(), "")),
         Err(error) if error.kind() == ErrorKind::NotFound => identify_in_folder(rt, name),
         _ => None,
     }
@@ -209,11 +189,7 @@ fn identify_in_folder<'a>(rt: &HostRuntime, name: &'a str) -> Option<Identity<'a
         _ => Path::new("."),
     };
     let found = fs::metadata(rt, folder).ok()?;
-    Some(Identity {
-        device: found.dev(),
-        number: found.ino(),
-        name: path.file_name()?,
-    })
+    Some((found.dev(), found.ino(), path.file_name()?))
 }
 
 fn apart_from(one: &Place<'_>, others: &[Place<'_>]) -> Result<(), ArgumentError> {
@@ -223,6 +199,7 @@ fn apart_from(one: &Place<'_>, others: &[Place<'_>]) -> Result<(), ArgumentError
     for other in others {
         if let Some(identity) = other.identity
             && identity == own
+            && !(one.is_own && other.is_own)
         {
             return Err(ArgumentError::SameFile(one.file, other.file));
         }

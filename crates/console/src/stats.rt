@@ -1,17 +1,15 @@
 // What `--stats` tells of a run: for each of its stages the time, how much there was, and the greatest memory so far.
 
 use crate::size::Size;
-use crate::told::Told;
 use calculus::closed::Closed;
 use forms::form::Normal;
 use forms::priorities::Priorities;
-use lts::Piece;
 use lts::system::Lts;
 use measures::observer::Stage;
 use normal::make::normal_with;
 use std::alloc::Global;
-use std::fs;
-use std::time::{Clock, Duration, Instant};
+use std::time::{Clock, Instant};
+use std::{fmt, fs};
 
 /// What is told of a run.
 #[derive(Clone, Copy)]
@@ -23,12 +21,18 @@ pub enum Stats {
 }
 
 impl Stats {
+    /// What is told of a check or a table where that is asked for, by sets of states or by the game.
+    pub fn of(is_asked: bool, plain: bool, rule: Priorities) -> Stats {
+        match (is_asked, plain) {
+            (false, _) => Stats::Nothing,
+            (true, true) => Stats::Stages,
+            (true, false) => Stats::StagesAndGame(rule),
+        }
+    }
+
     /// Whether anything is told.
     pub fn are_told(self) -> bool {
-        match self {
-            Stats::Nothing => false,
-            Stats::Stages | Stats::StagesAndGame(_) => true,
-        }
+        !matches!(self, Stats::Nothing)
     }
 }
 
@@ -41,92 +45,52 @@ pub enum Activity {
 
 impl Activity {
     /// Whether the other one is the same, or goes on with it.
-    fn goes_on(self, other: Activity) -> bool {
-        match (self, other) {
-            (Activity::Seen(Stage::Lifting { .. }), Activity::Seen(Stage::Lifting { .. }))
-            | (Activity::Seen(Stage::Searching { .. }), Activity::Seen(Stage::Searching { .. })) =>
-                { true },
-            _ => false,
-        }
+    pub(crate) fn goes_on(self, other: Activity) -> bool {
+        let (Activity::Seen(own), Activity::Seen(other)) = (self, other) else {
+            return false;
+        };
+        matches!(
+            (own, other),
+            (Stage::Lifting { .. }, Stage::Lifting { .. })
+                | (Stage::Searching { .. }, Stage::Searching { .. })
+        )
     }
 }
 
 /// A step that goes on, and since when.
 #[derive(Clone, Copy)]
-pub struct Running {
-    step: Activity,
-    since: Instant,
+pub(crate) struct Running {
+    pub(crate) step: Activity,
+    pub(crate) since: Instant,
 }
 
 impl Running {
-    /// A step that begins now; none where there is no clock.
-    pub fn new<T: Clock>(handle: &T, step: Activity) -> Option<Running> {
-        match Instant::now(handle) {
-            Ok(since) => Some(Running { step, since }),
-            Err(_) => None,
+    /// What is told of it as it ends now; none where there is no clock or no memory.
+    pub(crate) fn ended<T: Clock>(self, rt: HostRuntime, handle: &T) -> Option<String> {
+        let (step, elapsed) = (self.step, self.since.elapsed(handle).ok()?);
+        let (seconds, thousandths) = (elapsed.as_secs(), elapsed.subsec_millis());
+        let time = format!(in rt.alloc(); "mucheck: {step}: {seconds}.{thousandths:03} s").ok()?;
+        match most_memory(rt) {
+            Some(kilobytes) => format!(in rt.alloc(); "{time}, {} MB so far\n", kilobytes / 1024),
+            None => format!(in rt.alloc(); "{time}\n"),
         }
-    }
-
-    /// Whether the step goes on with this one.
-    pub fn goes_on(self, step: Activity) -> bool {
-        self.step.goes_on(step)
-    }
-
-    /// The same since then, which has come to this step.
-    pub fn at(self, step: Activity) -> Running {
-        Running {
-            step,
-            since: self.since,
-        }
-    }
-
-    /// Tells of it as it ends now. The answer is whether there is a clock, and was memory.
-    pub(crate) fn tell<T: Clock>(self, rt: HostRuntime, handle: &T, told: &mut Told) -> bool {
-        match self.since.elapsed(handle) {
-            Ok(elapsed) => {
-                tell_step(rt, self.step, elapsed, told);
-                told.is_whole()
-            }
-            Err(_) => false,
-        }
+        .ok()
     }
 }
 
-/// Tells of both texts, and of their game where that is told of and there is memory for it.
-pub(crate) fn tell_texts(
+/// What is told of the game of both texts; none where the formula has no normal form, or there is no memory.
+pub(crate) fn game_told(
     alloc: Global,
-    stats: Stats,
     system: &Lts,
     formula: &Closed,
-    told: &mut Told,
-) {
-    told.words("mucheck: ");
-    told.amount(u64::from(system.states()), " states, ");
-    told.amount(system.transitions() as u64, " transitions\n");
-    if let Stats::StagesAndGame(rule) = stats {
-        let mut game = Told::none(alloc);
-        tell_game(alloc, system, formula, rule, &mut game);
-        if game.is_whole() {
-            told.add(&[Piece::Bytes(game.bytes())]);
-        }
-    }
-}
-
-/// Tells of the game of both texts; nothing where the formula has no normal form.
-fn tell_game(alloc: Global, system: &Lts, formula: &Closed, rule: Priorities, told: &mut Told) {
-    if let Ok(normal) = normal_with(alloc, formula, rule) {
-        tell_normal(alloc, system, &normal, told);
-    }
-}
-
-fn tell_normal(alloc: Global, system: &Lts, normal: &Normal, told: &mut Told) {
-    if let Ok(size) = Size::of(alloc, system, normal) {
-        told.words("mucheck: ");
-        told.amount(u64::from(normal.count()), " nodes, greatest priority ");
-        told.amount(u64::from(greatest_priority(normal)), ", ");
-        told.amount(size.vertices, " vertices, ");
-        told.amount(size.edges, " edges\n");
-    }
+    rule: Priorities,
+) -> Option<String> {
+    let normal = normal_with(alloc, formula, rule).ok()?;
+    let Size { vertices, edges } = Size::of(alloc, system, &normal).ok()?;
+    let (nodes, greatest) = (normal.count(), greatest_priority(&normal));
+    format!(in alloc;
+        "mucheck: {nodes} nodes, greatest priority {greatest}, {vertices} vertices, {edges} edges\n"
+    ).ok()
 }
 
 fn greatest_priority(normal: &Normal) -> u32 {
@@ -137,76 +101,30 @@ fn greatest_priority(normal: &Normal) -> u32 {
     greatest
 }
 
-/// Tells of a step that took so long.
-fn tell_step(rt: HostRuntime, step: Activity, elapsed: Duration, told: &mut Told) {
-    told.words("mucheck: ");
-    tell_name(step, told);
-    told.words(": ");
-    told.amount(elapsed.as_secs(), ".");
-    let thousandths = u64::from(elapsed.subsec_millis());
-    told.words(zeros_before(thousandths));
-    told.amount(thousandths, " s");
-    if let Some(kilobytes) = most_memory(rt) {
-        told.words(", ");
-        told.amount(kilobytes / 1024, " MB so far");
-    }
-    told.words("\n");
-}
-
-/// What stands before so many thousandths of a second, that there are three digits.
-fn zeros_before(thousandths: u64) -> &'static str {
-    if thousandths < 10 {
-        "00"
-    } else if thousandths < 100 {
-        "0"
-    } else {
-        ""
-    }
-}
-
-/// Tells what a step does, and of how much.
-pub(crate) fn tell_name(step: Activity, told: &mut Told) {
-    match step {
-        Activity::ReadingGame => told.words("reading the game"),
-        Activity::Seen(stage) => {
-            told.words(words_of(stage));
-            tell_amount(stage, told);
+impl fmt::Display for Activity {
+    fn fmt<W: fmt::Write>(&self, f: &mut fmt::Formatter<W>) -> fmt::Result {
+        let Activity::Seen(stage) = self else {
+            return f.write_str("reading the game");
+        };
+        match stage {
+            Stage::ReadingSystem => f.write_str("reading the system"),
+            Stage::ReadingFormula => f.write_str("reading the formula"),
+            Stage::Building { states } => write!(f, "building, {states} states"),
+            Stage::Searching { vertices } => write!(f, "searching, {vertices} vertices"),
+            Stage::Lifting { vertices, lifts } => {
+                write!(f, "lifting, {vertices} vertices, {lifts} lifts")
+            }
+            Stage::Worked {
+                worker,
+                turns,
+                rises,
+            } => write!(f, "worker {worker}: {turns} turns, {rises} rises"),
+            Stage::Evaluating { states } => write!(f, "evaluating by sets, {states} states"),
+            Stage::MakingEvidence { vertices } => {
+                write!(f, "making evidence, {vertices} vertices")
+            }
+            Stage::Writing => f.write_str("writing"),
         }
-    }
-}
-
-/// What a stage does.
-fn words_of(stage: Stage) -> &'static str {
-    match stage {
-        Stage::ReadingSystem => "reading the system",
-        Stage::ReadingFormula => "reading the formula",
-        Stage::Building { .. } => "building",
-        Stage::Searching { .. } => "searching",
-        Stage::Lifting { .. } => "lifting",
-        Stage::Evaluating { .. } => "evaluating by sets",
-        Stage::MakingEvidence { .. } => "making evidence",
-        Stage::Writing => "writing",
-    }
-}
-
-/// Tells of how much a stage does that.
-fn tell_amount(stage: Stage, told: &mut Told) {
-    match stage {
-        Stage::Building { states } | Stage::Evaluating { states } => {
-            told.words(", ");
-            told.amount(u64::from(states), " states");
-        }
-        Stage::Searching { vertices }
-        | Stage::Lifting { vertices, .. }
-        | Stage::MakingEvidence { vertices } => {
-            told.words(", ");
-            told.amount(u64::from(vertices), " vertices");
-        }
-        Stage::ReadingSystem | Stage::ReadingFormula | Stage::Writing => {}
-    }
-    if let Stage::Lifting { lifts, .. } = stage {
-        told.words(", ");
-        told.amount(lifts, " lifts");
     }
 }
 

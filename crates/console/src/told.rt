@@ -1,52 +1,7 @@
-// Texts that are told while a program runs, made piece by piece.
+// How words and names of files are told on standard error.
 
-use lts::{Piece, put_pieces};
-use std::alloc::Global;
-use std::io;
 use std::io::Write;
-
-/// A text that is made piece by piece.
-#[derive(Drop)]
-pub(crate) struct Told {
-    bytes: Vec<u8>,
-    /// Whether there was memory for all.
-    is_whole: bool,
-}
-
-impl Told {
-    /// Nothing yet.
-    pub(crate) fn none(alloc: Global) -> Told {
-        Told {
-            bytes: Vec::new(alloc),
-            is_whole: true,
-        }
-    }
-
-    /// These pieces behind what stands there.
-    pub(crate) fn add(&mut self, pieces: &[Piece<'_>]) {
-        self.is_whole &= put_pieces(&mut self.bytes, pieces).is_ok();
-    }
-
-    /// These words behind what stands there.
-    pub(crate) fn words(&mut self, words: &str) {
-        self.add(&[Piece::Bytes(words.as_bytes())]);
-    }
-
-    /// A number with what follows it, behind what stands there.
-    pub(crate) fn amount(&mut self, number: u64, words: &str) {
-        self.add(&[Piece::Number(number), Piece::Bytes(words.as_bytes())]);
-    }
-
-    /// Whether there was memory for all.
-    pub(crate) fn is_whole(&self) -> bool {
-        self.is_whole
-    }
-
-    /// What stands there.
-    pub(crate) fn bytes(&self) -> &[u8] {
-        self.bytes.as_slice()
-    }
-}
+use std::{fmt, io};
 
 /// Writes these words on standard error, one after another.
 pub(crate) fn say(rt: &HostRuntime, words: &[&str]) -> io::Result<()> {
@@ -55,4 +10,27 @@ pub(crate) fn say(rt: &HostRuntime, words: &[&str]) -> io::Result<()> {
         out.write_all(word.as_bytes())?;
     }
     Ok(())
+}
+
+/// A file's name as it is told: in quotes, with escapes, where it isn't plain.
+#[derive(Clone, Copy)]
+pub struct FileName<'a>(pub &'a str);
+
+impl fmt::Display for FileName<'_> {
+    fn fmt<W: fmt::Write>(&self, f: &mut fmt::Formatter<W>) -> fmt::Result {
+        if is_plain(self.0) {
+            f.write_str(self.0)
+        } else {
+            fmt::Debug::fmt(&self.0, f)
+        }
+    }
+}
+
+/// Whether a name can be told as it is, also at the end of a table's line: it has no control character, and is not taken for one in quotes or for what
+/// is said of an answer.
+fn is_plain(name: &str) -> bool {
+    !name.chars().any(|c| c.is_control())
+        && !name.starts_with("\"")
+        && !name.ends_with(" as expected")
+        && !name.ends_with(" UNEXPECTED")
 }

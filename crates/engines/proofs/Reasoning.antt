@@ -5,32 +5,26 @@ use Rattle.text.proofs.Writing.{Stays-refl}
 use Rattle.std.specs.Prelude.{IsTrue, MatchResult, slice_index_or}
 use Rattle.text.specs.Wrote.{Wrote}
 use Rattle.text.specs.declared.write_loop.WriteFault.{WriteFault}
-use Rattle.systems.specs.Numbered.{Numbered, system_with}
-use Rattle.systems.specs.declared.system.Transition.{Transition}
 use Rattle.forms.specs.declared.priorities.Priorities.{Priorities}
 use Rattle.forms.specs.Nodes.{Node}
-use Rattle.forms.specs.Rules.{nodes_with}
-use Rattle.normal.proofs.Numbers.{is_form}
-use Rattle.witness.specs.Walk.{is_marked}
-use Rattle.why.specs.Remarks.{remarks}
-use Rattle.why.specs.Shown.{AreWitness}
-use Rattle.why.specs.Story.{telling_text}
-use Rattle.why.specs.declared.line.Line.{Line}
+use Rattle.forms.specs.Normal.{normal_nodes}
+use Rattle.why.specs.Story.{story_text}
+use Rattle.why.specs.declared.visit.Visit.{Visit}
 use Rattle.workers.specs.declared.team.BoardKind.{BoardKind}
 use Rattle.requests.specs.declared.error.MuError.{MuError}
 use Rattle.requests.specs.declared.error.MuError.TheVariants as error
 use Rattle.requests.specs.declared.request.ReportForm.TheVariants.{Nothing}
 use Rattle.requests.specs.declared.request.Wanted.{Wanted}
+use Rattle.requests.specs.declared.texts.Texts.{Texts}
 use Rattle.requests.specs.declared.request.WitnessForm.TheVariants.{System as AsSystem}
 use Rattle.requests.specs.Check.{AreSpelled, ByGame, RefusesCheck, Way}
 use Rattle.requests.specs.Strict.{HasRefusedBy, KnowsWords}
 use Rattle.requests.specs.Writers.{AreKept, Lent, WitnessText, lent_for}
 use Rattle.verdicts.specs.declared.findings.Findings.{Findings}
 use Rattle.engines.specs.declared.reasons.Told.{Told}
-use Rattle.engines.specs.declared.reasons.TheConstants.{MOST_TOLD}
-use Rattle.engines.specs.Prepared.{AreShown, IsUnshown}
+use Rattle.engines.specs.Prepared.{IsUnshown}
 use Rattle.verdicts.specs.Findings.{AreFindings, formula_found, system_of, way_in}
-use Rattle.engines.specs.Reasons.{AreReasons, AreTold, HasNoReasons, TellsReasons, reasons, remarks_of}
+use Rattle.engines.specs.Reasons.{AreReasons, AreToldOf, HasNoReasons, TellsReasons, reasons}
 use Rattle.engines.specs.StrictReasons.{HasNoReasonsBy, TellsReasonsBy}
 use Rattle.engines.proofs.Checks.{unprepared_of}
 
@@ -113,46 +107,30 @@ unshown_kept x first second old e spelled found is = by e is (unprepared_of x wa
     by (error.NoLabel offset) h r = absurd h
     by (error.Write e) h r = absurd h
 
--- What is shown is a witness of which the lines may tell.
-pub shown_witness : (x : Findings) (part : List Transition) → AreFindings x → AreShown x part → AreWitness x.texts.value.system part
-shown_witness x part found shown =
-    let within = found.solution.game.within in
-    record {
-      inside = shown.inside;
-      formula = formula_found x;
-      nodes = nodes_with x.solution.priorities (formula_found x);
-      form = is_form x.solution.priorities (formula_found x) within.form.nodes within.form.priorities;
-      shown = shown.shown;
-    }
-
--- the same telling of the same
-pub telling_same : (n m : Numbered) (ns ks : List Node) (marks others : List Bool) (p q : List Transition) (lines more : List Line) → n ≡ m → ns ≡ ks
-    → marks ≡ others → p ≡ q → lines ≡ more
-    → telling_text (remarks n.system ns (is_marked marks)) (system_with n p) MOST_TOLD lines
-    ≡ telling_text (remarks m.system ks (is_marked others)) (system_with m q) MOST_TOLD more
-telling_same n m ns ks marks others p q lines more en ens em ep el =
-    λ j. telling_text (remarks (en j).system (ens j) (is_marked (em j))) (system_with (en j) (ep j)) MOST_TOLD (el j)
-
--- What is told is the answer and a witness.
-why_told : (x : Findings) (told : Told) → AreTold x told
+-- What is told is the answer and a play that shows it.
+why_told : (x : Findings) (told : Told) → AreToldOf x told
     → AreReasons x.solution.priorities (system_of x) (formula_found x) (slice_index_or x.marks.items (system_of x).initial false)
-    (reasons (formula_found x) (slice_index_or x.marks.items (system_of x).initial false) (remarks_of x told)
-    (system_with x.texts.value.system told.play.transitions.items) told.lines.items)
+    (reasons (formula_found x) (slice_index_or x.marks.items (system_of x).initial false) (system_of x) (normal_nodes told.normal) told.visits.items
+    told.heads.items told.count)
 why_told x told is = record {
-  part = system_with x.texts.value.system told.play.transitions.items;
-  set = is_marked told.play.marks.items;
-  lines = told.lines.items;
-  shown = is.shown.shown;
-  telling = is.telling;
-  told = ap (λ (ns : List Node). reasons (formula_found x) (slice_index_or x.marks.items (system_of x).initial false)
-      (remarks (system_of x) ns (is_marked told.play.marks.items)) (system_with x.texts.value.system told.play.transitions.items) told.lines.items) is.nodes;
+  visits = told.visits.items;
+  heads = told.heads.items;
+  count = told.count;
+  told = is.lines;
+  is = ap (λ (ns : List Node). reasons (formula_found x) (slice_index_or x.marks.items (system_of x).initial false) (system_of x) ns told.visits.items
+      told.heads.items told.count) is.nodes;
 }
+
+-- the same story of the same
+pub story_same : (t u : Texts) (nodes : List Node) (m n : ℕ) (visits others : List Visit) (heads marks : List Bool) (count : ℕ) → t ≡ u → m ≡ n → visits ≡ others
+    → heads ≡ marks → story_text t.system.system nodes m visits heads count ≡ story_text u.system.system nodes n others marks count
+story_same t u nodes m n visits others heads marks count et em ev eh = λ j. story_text (et j).system.system nodes (em j) (ev j) (eh j) count
 
 -- All was written, or a beginning.
 pub reasoned : (x : Findings) (told : Told) (first second : List ℕ) (old new : Taken) (wrote : Result Unit WriteFault) (r : Result Bool MuError)
-    → AreFindings x → (system_of x).initial < (system_of x).states → AreSpelled first second (system_of x) (formula_found x) → AreTold x told
-    → Wrote old new wrote (reasons (formula_found x) (slice_index_or x.marks.items (system_of x).initial false) (remarks_of x told)
-    (system_with x.texts.value.system told.play.transitions.items) told.lines.items)
+    → AreFindings x → (system_of x).initial < (system_of x).states → AreSpelled first second (system_of x) (formula_found x) → AreToldOf x told
+    → Wrote old new wrote (reasons (formula_found x) (slice_index_or x.marks.items (system_of x).initial false) (system_of x) (normal_nodes told.normal)
+    told.visits.items told.heads.items told.count)
     → MatchResult wrote (λ _. r ≡ Ok (slice_index_or x.marks.items (system_of x).initial false)) (λ fault. r ≡ Err (error.Write fault))
     → TellsReasons x.solution.priorities x.solution.board first second old new r
 reasoned x told first second old new (Ok v) r found inside spelled is wrote e =

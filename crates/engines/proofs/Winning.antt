@@ -1,6 +1,6 @@
 -- Evidence that has the initial state's vertex with the root node.
 use Rattle.std.proofs.Common.{◌≡◌, ◌<◌, ℕ, Bool, true, false, Some, inl, inr, refl, sym, ap, ◌∙◌, subst, true≢false}
-use Rattle.std.specs.Prelude.{IsTrue, ◌↔◌, ◌⊎◌, IfOk, IfSome, List, Option, None, Result, Ok, Err, slice_index_or}
+use Rattle.std.specs.Prelude.{IsTrue, ◌↔◌, ◌⊎◌, IfOk, IfSome, List, Option, None, Result, Ok, Err, map, slice_index_or}
 use Rattle.std.specs.Arc.{arc_value}
 use Rattle.systems.specs.Numbered.{IsInside, system_with}
 use Rattle.calculus.specs.Admitted.{IsAdmitted}
@@ -11,7 +11,6 @@ use Rattle.forms.specs.Nodes.{Node}
 use Rattle.forms.specs.Rules.{nodes_with}
 use Rattle.forms.specs.Tree.{normal_form}
 use Rattle.game.specs.Game.{Game, IsGame}
-use Rattle.game.specs.Arena.{place_in}
 use Rattle.game.specs.Wins.{OddWins, Wins}
 use Rattle.progress.specs.Laws.{OneWins}
 use Rattle.laws.specs.Admissible.{IsNodes}
@@ -21,9 +20,13 @@ use Rattle.evidence.specs.Evidence.{IsEvidence, IsGood, has}
 use Rattle.evidence.specs.View.{NamedEvidence}
 use Rattle.evidence.specs.declared.error.EvidenceError.{EvidenceError}
 use Rattle.witness.specs.Walk.{is_marked}
-use Rattle.witness.specs.Witness.{GoesOneWay, IsPlay, IsWitness, root_of}
+use Rattle.witness.specs.Witness.{GoesOneWay, IsPlay, IsWinners, IsWitness, root_of}
 use Rattle.witness.specs.declared.part.Play.{Play}
 use Rattle.witness.proofs.Means.{shown_of}
+use Rattle.game.specs.Arena.{arena, place_in}
+use Rattle.why.specs.Story.{modality_of}
+use Rattle.engines.specs.Reasons.{AreToldOf, IsToldBy}
+use Rattle.engines.specs.declared.reasons.Told.{Told}
 use Rattle.requests.specs.Roots.{WinsRoot}
 use Rattle.requests.specs.declared.texts.Texts.{Texts}
 use Rattle.engines.specs.Prepared.{AreShown, IsPlayShown, IsWinning}
@@ -121,6 +124,18 @@ one_way_found x g t u nodes (Some e) same at_t at_u is game good root one =
       kind = inl (subst (λ (h : Game). GoesOneWay h e.evidence) (sym game) one);
     }
 
+-- Such evidence is the winner's.
+pub winners_of : (x : Findings) (e : NamedEvidence) → AreFindings x → IsWinning x e → IsEvidence e.game e.evidence
+    → IsWinners (system_of x) (nodes_with x.solution.priorities (formula_found x)) e.evidence
+winners_of x e found win is =
+    let game = win.game ∙ found.solution.game.same in
+    record {
+      evidence = subst (λ (g : Game). IsEvidence g e.evidence) game is;
+      good = subst (λ (g : Game). IsGood g e.evidence) game win.good;
+      root = win.root;
+      kind = subst (λ (g : Game). GoesOneWay g e.evidence ⊎ (IsEvenOf g e.evidence ⊎ IsOddOf g e.evidence)) game win.kind;
+    }
+
 -- The play by such evidence is shown.
 pub shown_by : (x : Findings) (e : NamedEvidence) (nodes : List Node) (play : Play) → ChosenIsAdmissible → AreFindings x → IsWinning x e
     → IsEvidence e.game e.evidence → nodes ≡ nodes_with x.solution.priorities (formula_found x) → IsInside x.texts.value.system play.transitions.items
@@ -132,18 +147,12 @@ shown_by x e nodes play chosen found win is same inside takes witness =
     let l = system_of x in
     let f = formula_found x in
     let whole = system_with x.texts.value.system play.transitions.items in
-    let game = win.game ∙ found.solution.game.same in
     let admitted = x.texts.value.formula.admitted in
     record {
       inside = inside;
       shown = record {
         evidence = e.evidence;
-        winners = record {
-          evidence = subst (λ (g : Game). IsEvidence g e.evidence) game is;
-          good = subst (λ (g : Game). IsGood g e.evidence) game win.good;
-          root = win.root;
-          kind = subst (λ (g : Game). GoesOneWay g e.evidence ⊎ (IsEvenOf g e.evidence ⊎ IsOddOf g e.evidence)) game win.kind;
-        };
+        winners = winners_of x e found win is;
         play = subst (λ (ns : List Node). IsPlay l ns e.evidence whole (is_marked play.marks.items)) same takes;
         witness = witness f admitted (subst (IsNodes (normal_form f)) (sym same) (chosen rule f admitted));
       };
@@ -172,3 +181,26 @@ shown_of_play x play h = record {
   shown = shown_of (system_of x) (formula_found x) (nodes_with x.solution.priorities (formula_found x)) (system_with x.texts.value.system play.transitions.items)
       (is_marked play.marks.items) h.shown;
 }
+
+-- Visits that tell the play by such evidence are told, of the texts and the game as they are read off what was found.
+pub told_at : (x : Findings) (e : NamedEvidence) (g : Game) (t u : Texts) (nodes : List Node) (told : Told) → AreFindings x → IsWinning x e
+    → IsEvidence e.game e.evidence → g ≡ game_in x → t ≡ x.texts.value → u ≡ x.texts.value
+    → nodes ≡ nodes_with x.solution.priorities (closed_formula t.formula)
+    → IsToldBy u.system.system nodes g e.evidence told → AreToldOf x told
+told_at x e g t u nodes told found win is at_g at_t at_u same by =
+    let rule = x.solution.priorities in
+    let whole = subst (λ (y : Texts). nodes ≡ nodes_with rule (closed_formula y.formula)) at_t same in
+    let here = subst (λ (h : Game). IsToldBy (system_of x) nodes h e.evidence told) (at_g ∙ found.solution.game.same)
+    (subst (λ (y : Texts). IsToldBy y.system.system nodes g e.evidence told) at_u by) in
+    let all = subst (λ (ns : List Node). IsToldBy (system_of x) ns (arena (system_of x) (nodes_with rule (formula_found x))) e.evidence told) whole here in
+    record {
+      nodes = all.nodes;
+      lines = record {
+        evidence = e.evidence;
+        winners = winners_of x e found win is;
+        telling = all.telling;
+        back = all.back;
+        cut = all.cut;
+      };
+      texts = all.texts ∙ ap (map modality_of) (sym all.nodes);
+    }

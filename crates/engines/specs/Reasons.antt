@@ -1,45 +1,57 @@
 -- What is told of why the initial state satisfies a formula, or doesn't.
-use Rattle.std.specs.Prelude.{◌≡◌, ℕ, ◌↔◌, Bool, List, [], ◌∷◌, ◌++◌, Option, Result, MatchResult, IsTrue}
+use Rattle.std.specs.Prelude.{◌≡◌, ℕ, ◌+◌, ◌*◌, ◌↔◌, Bool, List, [], ◌∷◌, ◌++◌, Option, Result, MatchResult, IsTrue, length, map}
 use Rattle.text.specs.Taken.{Taken, Adds}
+use Rattle.text.specs.Pieces.{line_end}
 use Rattle.text.specs.Wrote.{WroteFront}
 use Rattle.systems.specs.System.{System}
-use Rattle.systems.specs.Numbered.{system_with}
 use Rattle.calculus.specs.Tree.{Formula}
 use Rattle.calculus.specs.Meaning.{Satisfies}
 use Rattle.forms.specs.declared.priorities.Priorities.{Priorities}
 use Rattle.forms.specs.Normal.{normal_nodes}
 use Rattle.forms.specs.Rules.{nodes_with}
-use Rattle.witness.specs.Walk.{is_marked}
-use Rattle.witness.specs.Witness.{IsShownBy}
-use Rattle.why.specs.Remarks.{Remarks, remarks}
-use Rattle.why.specs.Story.{telling_text}
+use Rattle.forms.specs.Nodes.{Node}
+use Rattle.game.specs.Arena.{arena}
+use Rattle.game.specs.Game.{Game}
+use Rattle.evidence.specs.Evidence.{Evidence}
+use Rattle.witness.specs.Witness.{IsWinners, root_of}
+use Rattle.why.specs.Story.{AreHeads, IsCut, has_branch, modality_of, story_text, verdict_text}
 use Rattle.why.specs.Telling.{IsTelling}
-use Rattle.why.specs.declared.line.Line.{Line}
+use Rattle.why.specs.declared.visit.Visit.{Visit}
 use Rattle.workers.specs.declared.team.BoardKind.{BoardKind}
 use Rattle.requests.specs.declared.error.MuError.{MuError}
 use Rattle.requests.specs.declared.error.MuError.TheVariants as error
 use Rattle.requests.specs.Check.{AreSpelled, ByGame, RefusesCheck, CanBeFound}
-use Rattle.requests.specs.Report.{formula_line, initial_line}
+use Rattle.requests.specs.Report.{formula_line}
 use Rattle.requests.specs.Writers.{WitnessText, lent_for}
 use Rattle.verdicts.specs.declared.findings.Findings.{Findings}
 use Rattle.engines.specs.declared.reasons.Told.{Told}
 use Rattle.engines.specs.declared.reasons.TheConstants.{MOST_TOLD}
-use Rattle.engines.specs.Prepared.{IsPlayShown}
 use Rattle.verdicts.specs.Findings.{formula_found, system_of}
 
--- the formula, whether the initial state satisfies it, and what is told of a witness, with what is remarked of its states and steps
-abbrev pub reasons : Formula → Bool → Remarks → System → List Line → List ℕ
-reasons f answer remarks part lines = formula_line f ++ (initial_line answer ++ telling_text remarks part MOST_TOLD lines)
+-- how many visits are made at most: many enough for the lines that are told
+abbrev pub most_visits : List Node → ℕ
+most_visits nodes = (length nodes + 1) * (MOST_TOLD + 1)
 
--- The text tells the answer and a witness, of what the play reaches by which modalities it takes each step, and at each state from which the witness has no
--- step, what is lacking there.
+-- the formula, whether the initial state satisfies it, and the lines of the visits
+abbrev pub reasons : Formula → Bool → System → List Node → List Visit → (heads : List Bool) → (count : ℕ) → List ℕ
+reasons f answer l nodes visits heads count =
+    formula_line f ++ ((verdict_text answer (has_branch visits) ++ line_end) ++ story_text l nodes (most_visits nodes) visits heads count)
+
+-- The visits tell the play by the winner's evidence from the initial state on; the marks are those of visits to which a run comes back; and so many are told.
+pub record AreTold (l : System) (nodes : List Node) (visits : List Visit) (heads : List Bool) (count : ℕ) : Type 0 where
+  pub evidence : Evidence
+  pub winners : IsWinners l nodes evidence
+  pub telling : IsTelling (arena l nodes) evidence (root_of l nodes) (most_visits nodes) visits
+  pub back : AreHeads visits heads
+  pub cut : IsCut nodes visits heads MOST_TOLD count
+
+-- The text tells the answer and a play that shows it.
 pub record AreReasons (rule : Priorities) (l : System) (f : Formula) (answer : Bool) (text : List ℕ) : Type 0 where
-  pub part : System
-  pub set : ℕ → Bool
-  pub lines : List Line
-  pub shown : IsShownBy l f (nodes_with rule f) part set
-  pub telling : IsTelling part MOST_TOLD lines
-  pub told : text ≡ reasons f answer (remarks l (nodes_with rule f) set) part lines
+  pub visits : List Visit
+  pub heads : List Bool
+  pub count : ℕ
+  pub told : AreTold l (nodes_with rule f) visits heads count
+  pub is : text ≡ reasons f answer l (nodes_with rule f) visits heads count
 
 -- Both texts are spelled, the answer is that of the initial state in the formula's meaning, and what was written is this of a text that tells why.
 pub record HasGivenReasons (rule : Priorities) (board : Option BoardKind) (first second : List ℕ) (answer : Bool) (Writes : List ℕ → Type 0) : Type 0 where
@@ -61,12 +73,16 @@ abbrev pub TellsReasons : Priorities → Option BoardKind → (first second : Li
 TellsReasons rule board first second old new result =
     MatchResult result (λ answer. HasGivenReasons rule board first second answer (Adds old new)) (HasNoReasons rule board first second old new)
 
--- The play is that of a witness, and the lines tell its transitions.
-pub record AreTold (x : Findings) (told : Told) : Type 0 where
-  pub nodes : normal_nodes told.normal ≡ nodes_with x.solution.priorities (formula_found x)
-  pub shown : IsPlayShown x told.play
-  pub telling : IsTelling (system_with x.texts.value.system told.play.transitions.items) MOST_TOLD told.lines.items
+-- The visits tell the play by this evidence, with what their text is made of.
+pub record IsToldBy (l : System) (ns : List Node) (g : Game) (e : Evidence) (told : Told) : Type 0 where
+  pub nodes : normal_nodes told.normal ≡ ns
+  pub telling : IsTelling g e (root_of l ns) (most_visits ns) told.visits.items
+  pub back : AreHeads told.visits.items told.heads.items
+  pub cut : IsCut ns told.visits.items told.heads.items MOST_TOLD told.count
+  pub texts : map (λ text. text.items) told.modalities.items ≡ map modality_of ns
 
--- what is remarked of states and steps
-abbrev pub remarks_of : Findings → Told → Remarks
-remarks_of x told = remarks (system_of x) (normal_nodes told.normal) (is_marked told.play.marks.items)
+-- So it is of what was found, by the winner's evidence.
+pub record AreToldOf (x : Findings) (told : Told) : Type 0 where
+  pub nodes : normal_nodes told.normal ≡ nodes_with x.solution.priorities (formula_found x)
+  pub lines : AreTold (system_of x) (nodes_with x.solution.priorities (formula_found x)) told.visits.items told.heads.items told.count
+  pub texts : map (λ text. text.items) told.modalities.items ≡ map modality_of (normal_nodes told.normal)

@@ -291,7 +291,7 @@ pub fn check<
     answered
 }
 
-/// Checks as `check` does, with a gate that each worker calls before each of its turns. One worker alone calls none.
+/// Checks as `check` does, with a gate that each worker calls before each of its turns.
 ///
 /// # Errors
 /// Those of `check`.

@@ -152,6 +152,22 @@ pub(crate) fn play_of(
     }
 }
 
+/// Evidence of the winner: of a play that goes one way from each vertex, where one is found, and else of all that the winner wins.
+pub(crate) fn winning_evidence(alloc: Global, found: &Findings) -> Result<Evidence, MuError>
+    requires { AreFindings found.now }
+    ensures winning { IfOk result (IsWinning found.now) }
+    ensures refusal { IfErr result (IsUnshown found.now) }
+{
+    match one_way(alloc, found) {
+        Ok(Some(evidence)) => Ok(evidence),
+        Ok(None) => match winner_evidence(alloc, found) {
+            Ok(evidence) => Ok(evidence),
+            Err(error) => Err(MuError::Evidence(error)),
+        },
+        Err(error) => Err(error),
+    }
+}
+
 /// Evidence of a play that goes one way from each vertex, where one is found.
 fn one_way(alloc: Global, found: &Findings) -> Result<Option<Evidence>, MuError>
     requires { AreFindings found.now }

@@ -1,25 +1,30 @@
-// Why the initial state satisfies a formula, or doesn't: the verdict and a witness, as a person reads it.
+// Why the initial state satisfies a formula, or doesn't: the verdict and a play that shows it, as a person reads it.
 
-ghost use Rattle.std.specs.Prelude.{◌≡◌, ℕ, List, Some, IfOk, IfErr, slice_index_or, false};
-ghost use Rattle.systems.specs.Numbered.{system_with};
+ghost use Rattle.std.specs.Prelude.{◌≡◌, ◌<◌, ◌++◌, ℕ, List, Some, IfOk, IfErr, IsTrue, slice_index_or, false};
+ghost use Rattle.text.specs.Pieces.{line_end};
 ghost use Rattle.calculus.specs.Closed.{closed_formula};
 ghost use Rattle.text.specs.Wrote.{Wrote};
 ghost use Rattle.requests.specs.Causes.{HaveCauses};
 ghost use Rattle.requests.specs.Check.{AreSpelled};
 ghost use Rattle.forms.specs.Normal.{normal_nodes};
-ghost use Rattle.forms.specs.Rules.{nodes_with};
-ghost use Rattle.engines.specs.Prepared.{IsPlayShown, IsUnshown};
+ghost use Rattle.game.specs.Arena.{arena};
+ghost use Rattle.evidence.specs.Evidence.{IsGood, has as has_entry};
+ghost use Rattle.witness.specs.Witness.{root_of};
+ghost use Rattle.why.specs.Story.{has_branch as has_branch_of, story_text, verdict_text};
+ghost use Rattle.engines.specs.Prepared.{IsUnshown, IsWinning};
 ghost use Rattle.verdicts.specs.Findings.{AreFindings, formula_found, system_of};
-ghost use Rattle.engines.specs.Reasons.{AreTold, TellsReasons, reasons, remarks_of};
+ghost use Rattle.engines.specs.Reasons.{AreToldOf, IsToldBy, TellsReasons, most_visits as most_visits_of, reasons};
 ghost use Rattle.engines.specs.StrictReasons.{TellsWhyBy};
 
 use crate::outputs::answer;
-use crate::prepared::play_of;
+use crate::prepared::{initial_mark, winning_evidence};
+use evidence::evidence::Evidence;
 use forms::form::Normal;
-use lts::{Memory, WriteFault};
+use game::graph::Game;
+use lts::{Lts, Memory, Piece, WriteFault, put_pieces};
 use measures::observer::{Observer, Stage};
 use normal::make::normal_with;
-use reports::report::{write_formula_line, write_initial_line};
+use reports::report::write_formula_line;
 use requests::error::MuError;
 use requests::request::{Options, Why};
 use requests::texts::{Texts, read_asked};
@@ -31,26 +36,28 @@ use std::thread::Threads;
 use text::sink::Sink;
 use text::source::Source;
 use verdicts::findings::{Findings, find_in};
-use why::line::Line;
-use why::reached::Reached;
-use why::shown::tell_witness;
-use why::writer::write_telling;
-use witness::part::Play;
+use why::setting::{has_branch, heads, modality_texts, told_within, verdict};
+use why::visit::Visit;
+use why::walk::telling;
+use why::writer::{Story, write_story};
+use witness::part::root_vertex;
 
-/// How many transitions of a witness are told at most.
-pub const MOST_TOLD: usize = 200;
+/// How many lines of a play are told, and no more visits than have so many.
+pub const MOST_TOLD: u32 = 200;
 
-/// The play of a witness by a normal form, and the lines that tell its transitions.
+/// The visits that tell a play, by a normal form: the text of each node's modality, which visits a run comes back to, and how many are told.
 #[derive(Drop)]
 pub(crate) struct Told {
     pub(crate) normal: Normal,
-    pub(crate) play: Play,
-    pub(crate) lines: Vec<Line>,
+    pub(crate) modalities: Vec<Vec<u8>>,
+    pub(crate) visits: Vec<Visit>,
+    pub(crate) heads: Vec<bool>,
+    pub(crate) count: usize,
 }
 
-/// Writes the formula, whether the initial state satisfies it, and a witness of that, told from the initial state on. It answers whether the
-/// initial state satisfies the formula. The witness is the one that a check writes. Nothing is written before all memory was taken. Where it is
-/// strict, each word of the formula has to be on a transition.
+/// Writes the formula, whether the initial state satisfies it, and the play by the winner's evidence from the initial state on. It answers whether the
+/// initial state satisfies the formula. Nothing is written before all memory was taken. Where it is strict, each word of the formula has to be on a
+/// transition.
 ///
 /// # Errors
 /// Those of `check_asked` where it writes a witness alone.
@@ -128,82 +135,116 @@ fn tell_found<W: Sink, U: Watcher>(
     }
 }
 
-/// A witness of the answer, and the lines that tell it.
+/// What is told of the answer.
 fn told_of(alloc: Global, found: &Findings) -> Result<Told, MuError>
     requires { AreFindings found.now }
-    ensures told { IfOk result (AreTold found.now) }
+    ensures told { IfOk result (AreToldOf found.now) }
     ensures refusal { IfErr result (IsUnshown found.now) }
 {
-    match play_of(alloc, found, &None) {
-        Ok(play) => told_by(alloc, found, play),
+    match winning_evidence(alloc, found) {
+        Ok(evidence) => told_by(alloc, found, &evidence),
         Err(error) => Err(error),
     }
 }
 
-/// A play with the normal form by which it goes, and the lines that tell its transitions.
-fn told_by(alloc: Global, found: &Findings, play: Play) -> Result<Told, MuError>
+/// What is told of the play by this evidence.
+fn told_by(alloc: Global, found: &Findings, evidence: &Evidence) -> Result<Told, MuError>
     requires found { AreFindings found.now }
-    requires shown { IsPlayShown found.now play }
-    ensures told { IfOk result (AreTold found.now) }
+    requires winning { IsWinning found.now evidence.now }
+    ensures told { IfOk result (AreToldOf found.now) }
     ensures refusal { IfErr result (IsUnshown found.now) }
 {
-    match normal_with(alloc, &found.texts.formula, found.solution.priorities) {
-        Ok(normal) => told_with(alloc, found, normal, play),
+    evidence.known();
+    let texts = &found.texts;
+    match normal_with(alloc, &texts.formula, found.solution.priorities) {
+        Ok(normal) => match tell_by(alloc, &texts.system, &found.solution.game, normal, evidence) {
+            Ok(told) => Ok(told),
+            Err(Memory) => Err(MuError::Memory),
+        },
         Err(error) => Err(MuError::Normal(error)),
     }
 }
 
-/// The same by this normal form.
-fn told_with(alloc: Global, found: &Findings, normal: Normal, play: Play) -> Result<Told, MuError>
-    requires found { AreFindings found.now }
-    requires nodes { normal_nodes normal ≡ nodes_with found.now.solution.priorities (formula_found found.now) }
-    requires shown { IsPlayShown found.now play }
-    ensures told { IfOk result (AreTold found.now) }
-    ensures refusal { IfErr result (λ e. e ≡ MuError.Memory) }
+/// What is told of the play by evidence, in the game of a system and a normal form.
+fn tell_by(
+    alloc: Global,
+    system: &Lts,
+    game: &Game,
+    normal: Normal,
+    evidence: &Evidence,
+) -> Result<Told, Memory>
+    requires game { game.now ≡ arena system.now.system (normal_nodes normal) }
+    requires same { evidence.now.game ≡ game.now }
+    requires good { IsGood game.now evidence.now.evidence }
+    requires root { IsTrue (has_entry evidence.now.evidence (root_of system.now.system (normal_nodes normal))) }
+    ensures { IfOk result (IsToldBy system.now.system (normal_nodes normal) game.now evidence.now.evidence) }
 {
-    match tell_witness(alloc, &found.texts.system, &play.transitions, MOST_TOLD) {
-        Ok(lines) => Ok(Told {
-            normal,
-            play,
-            lines,
-        }),
-        Err(Memory) => Err(MuError::Memory),
-    }
+    let root = root_vertex(system, &normal, game);
+    let most = most_visits(&normal);
+    let visits = telling(alloc, game, evidence, root, most)?;
+    let heads = heads(alloc, &visits)?;
+    let count = told_within(&normal, &visits, &heads, MOST_TOLD);
+    let modalities = modality_texts(alloc, &normal)?;
+    Ok(Told {
+        normal,
+        modalities,
+        visits,
+        heads,
+        count,
+    })
 }
 
-/// What the play reaches, in the game that was solved.
-fn reached_in<'a>(found: &'a Findings, told: &'a Told) -> Reached<'a>
-    requires found { AreFindings found.now }
-    requires told { AreTold found.now told.now }
-    ensures system { result.system.now ≡ found.now.texts.value.system }
-    ensures normal { normal_nodes result.normal.now ≡ normal_nodes told.now.normal }
-    ensures marks { result.marks.now ≡ told.now.play.marks.items }
+/// How many visits are made at most.
+fn most_visits(normal: &Normal) -> usize
+    ensures many { result ≡ most_visits_of (normal_nodes normal.now) }
+    ensures some { 0 < result }
 {
-    Reached {
-        system: &found.texts.system,
-        normal: &told.normal,
-        game: &found.solution.game,
-        marks: &told.play.marks,
-    }
+    (normal.count() as usize + 1) * (MOST_TOLD as usize + 1)
 }
 
 /// Writes what is told.
 fn put_reasons<W: Sink>(found: &Findings, told: &Told, out: &mut W) -> Result<(), WriteFault>
     requires found { AreFindings found.now }
-    requires told { AreTold found.now told.now }
+    requires told { AreToldOf found.now told.now }
     ensures { let l = system_of found.now in Wrote (W.taken out.old) (W.taken out.new) result
-        (reasons (formula_found found.now) (slice_index_or found.now.marks.items l.initial false) (remarks_of found.now told.now)
-        (system_with found.now.texts.value.system told.now.play.transitions.items) told.now.lines.items) }
+        (reasons (formula_found found.now) (slice_index_or found.now.marks.items l.initial false) l (normal_nodes told.now.normal)
+        told.now.visits.items told.now.heads.items told.now.count) }
 {
-    let system = &found.texts.system;
     write_formula_line(&found.texts.formula, out)?;
-    write_initial_line(system, &found.marks, out)?;
-    let reached = reached_in(found, told);
-    write_telling(
-        &reached,
-        &told.play.transitions,
-        MOST_TOLD,
-        &told.lines,
+    put_verdict(found, told, out)?;
+    put_story(found, told, out)
+}
+
+/// Writes whether the initial state satisfies the formula, and whether one run shows it or several do.
+fn put_verdict<W: Sink>(found: &Findings, told: &Told, out: &mut W) -> Result<(), WriteFault>
+    requires { AreFindings found.now }
+    ensures { Wrote (W.taken out.old) (W.taken out.new) result
+        (verdict_text (slice_index_or found.now.marks.items (system_of found.now).initial false) (has_branch_of told.now.visits.items) ++ line_end) }
+{
+    let several = has_branch(&told.visits);
+    put_pieces(
         out,
+        &[
+            Piece::Bytes(verdict(initial_mark(found), several)),
+            Piece::Bytes(b"\n"),
+        ],
     )
+}
+
+/// Writes the lines of the visits.
+fn put_story<W: Sink>(found: &Findings, told: &Told, out: &mut W) -> Result<(), WriteFault>
+    requires { AreToldOf found.now told.now }
+    ensures { let nodes = normal_nodes told.now.normal in Wrote (W.taken out.old) (W.taken out.new) result
+        (story_text (system_of found.now) nodes (most_visits_of nodes) told.now.visits.items told.now.heads.items told.now.count) }
+{
+    let story = Story {
+        system: &found.texts.system,
+        normal: &told.normal,
+        modalities: &told.modalities,
+        visits: &told.visits,
+        heads: &told.heads,
+        count: told.count,
+        most: most_visits(&told.normal),
+    };
+    write_story(&story, out)
 }

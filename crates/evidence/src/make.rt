@@ -15,7 +15,6 @@ use game::dual::{dual, greatest_priority};
 use game::graph::Game;
 use game::player::Player;
 use laws::games::{dual_wins, not_both_win};
-use measures::observer::Silent;
 use measures::settle::{even_wins, solve_one, solve_one_from};
 use measures::table::{PlainTable, Settled, opening};
 use std::alloc::Global;
@@ -138,7 +137,7 @@ fn solve_dual(
     for v in 0..vertices {
         raise_dual(game, settled, &mut table, v);
     }
-    Ok(solve_one_from(turned, table, &Silent))
+    Ok(solve_one_from(turned, table))
 }
 
 /// Evidence of all that Odd wins in a game that is solved: Even's of the dual game, which is lifted from top where Even wins the game itself, read for Odd.

@@ -132,7 +132,7 @@ static FORMULA: [CodeEntry; 10] = [
         code: "F3",
         place: " at offset N",
         wrong: "the text ends before the formula does",
-        remedy: "close what is open",
+        remedy: "close what is open, or write what is lacking",
     },
     CodeEntry {
         code: "F4",
@@ -159,7 +159,8 @@ static FORMULA: [CodeEntry; 10] = [
         code: "F7",
         place: " at offset N",
         wrong: "inside a modality, `!`, `&&`, `||` and `=>` join steps, not paths",
-        remedy: "use `+` for a choice of paths, and `.` and `*` outside of the parentheses",
+        remedy: "use `||` for a choice of labels, `+` for a choice of paths, and `.` and `*` \
+        outside of the parentheses",
     },
     CodeEntry {
         code: "F8",
@@ -187,7 +188,7 @@ static FORMULA: [CodeEntry; 10] = [
     },
 ];
 
-static SOLVING: [CodeEntry; 8] = [
+static SOLVING: [CodeEntry; 9] = [
     CodeEntry {
         code: "N1",
         place: "",
@@ -232,6 +233,13 @@ static SOLVING: [CodeEntry; 8] = [
         place: "",
         wrong: "want of memory for the board",
         remedy: "use a machine with more memory, or fewer workers",
+    },
+    CodeEntry {
+        code: "T3",
+        place: "",
+        wrong: "no seat was found to give on the board, as in a game without vertices, which the \
+        program never makes",
+        remedy: "this is a fault of the program: tell who made it, with both files",
     },
     CodeEntry {
         code: "V1",
@@ -422,8 +430,8 @@ static CALL: [CodeEntry; 5] = [
     CodeEntry {
         code: "W1",
         place: "",
-        wrong: "the report or another text can't be written, for example because a disk is full \
-        or a pipe was closed; what was written is a beginning of it",
+        wrong: "the report or another text can't be written, for example because a disk is \
+        full; what was written is a beginning of it",
         remedy: "look at where the output goes",
     },
 ];

@@ -56,10 +56,10 @@ impl Ball {
         self.near.is_empty()
     }
 
-    /// Adds all vertices to which at most so many steps lead. Each is added once, so the ball is whole some time.
-    pub(crate) fn grow(&mut self, field: Field, steps: u32) -> Result<(), AllocError> {
+    /// Adds the nearest vertices, as far away as the last one that is added, until it has so many. Each is added once, so the ball is whole some time.
+    pub(crate) fn grow(&mut self, field: Field, most: usize) -> Result<(), AllocError> {
         for _ in 0..u32::MAX {
-            if self.level > steps || self.is_whole() {
+            if self.vertices.len() >= most || self.is_whole() {
                 break;
             }
             self.add_level(field)?;

@@ -8,13 +8,15 @@ use crate::lasso::Lasso;
 use lists::list::List;
 use std::alloc::{AllocError, Global};
 
-// How many steps away the search looks at first, and how many times further then.
-const FIRST_STEPS: u32 = 16;
+// How many vertices the search looks at first, and how many times more where it finds no loop among them.
+const FIRST_VERTICES: usize = 65_536;
 
-const TIMES: u32 = 4;
+const TIMES: usize = 8;
 
-// How many ways are looked at once a loop is known.
-const BUDGET: u64 = 16_777_216;
+// How many ways are looked at once a loop is known, for each vertex of the ball and for any.
+const LOOKS_EACH: u64 = 16;
+
+const LOOKS: u64 = 4_194_304;
 
 // One more than the greatest priority of a game.
 const PRIORITIES: u8 = 33;
@@ -29,6 +31,8 @@ struct Search<'a> {
     best: Option<Loop>,
     // How many steps it takes to come to the best loop and go round it once.
     total: u32,
+    // How many ways are looked at once a loop is known.
+    budget: u64,
 }
 
 /// A path from a vertex into a loop whose greatest priority is the player's, in which the opponent never has a choice.
@@ -38,19 +42,17 @@ pub(crate) fn find_lasso(
     root: u32,
 ) -> Result<Option<Lasso>, AllocError> {
     let mut ball = Ball::new(alloc, field, root)?;
-    let mut steps = FIRST_STEPS;
+    let mut most = FIRST_VERTICES;
     for _ in 0..u32::BITS {
-        ball.grow(field, steps)?;
+        ball.grow(field, most)?;
         let graph = Graph::of(alloc, field, &ball)?;
-        let search = Search::new(alloc, &graph, &ball.far)?.find(field)?;
-        let is_last = ball.is_whole() || search.total <= steps;
-        match &search.best {
-            Some(best) if is_last => return Ok(Some(Lasso::of(alloc, &ball, &best.places)?)),
-            // A better one has no place further away than this one is long.
-            Some(_) => steps = search.total,
-            None if is_last => break,
-            None => steps = steps.saturating_mul(TIMES),
+        if let Some(best) = Search::new(alloc, &graph, &ball.far)?.find(field)? {
+            return Ok(Some(Lasso::of(alloc, &ball, &best.places)?));
         }
+        if ball.is_whole() {
+            break;
+        }
+        most = most.saturating_mul(TIMES);
     }
     Ok(None)
 }
@@ -64,16 +66,19 @@ impl<'a> Search<'a> {
             closing: Closing::new(alloc, graph)?,
             best: None,
             total: u32::MAX,
+            budget: LOOKS_EACH
+                .saturating_mul(far.len() as u64)
+                .saturating_add(LOOKS),
         })
     }
 
-    fn find(mut self, field: Field) -> Result<Self, AllocError> {
+    fn find(mut self, field: Field) -> Result<Option<Loop>, AllocError> {
         for top in 0..PRIORITIES {
             if winner_by(top) == field.player && self.graph.has(u32::from(top)) {
                 self.look_below(u32::from(top))?;
             }
         }
-        Ok(self)
+        Ok(self.best)
     }
 
     // Looks for loops whose greatest priority this is.
@@ -81,7 +86,7 @@ impl<'a> Search<'a> {
         let rooms = self.graph.rooms(self.alloc, top)?;
         self.look_through_top(&rooms, top)?;
         for (start, far) in (0..u32::MAX).zip(self.far.as_slice()) {
-            if *far >= self.total || self.closing.looks > BUDGET {
+            if *far >= self.total || self.closing.looks > self.budget {
                 break;
             }
             if rooms.get_or(start as usize, 0) != NOWHERE {

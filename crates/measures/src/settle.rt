@@ -4,8 +4,6 @@ ghost use Rattle.std.specs.Prelude.{◌≡◌, IfOk};
 ghost use Rattle.progress.specs.Progress.{IsLeastTable};
 
 use game::graph::Game;
-use progress::observer::{Observer, Silent};
-use progress::settle::settle_seen;
 pub use progress::settle::{even_wins, is_settled, settle};
 use progress::table::{PlainTable, Settled, opening};
 use std::alloc::Global;
@@ -20,18 +18,17 @@ pub fn solve_one(alloc: Global, game: &Game) -> Result<Settled, Memory>
     ensures least { IfOk result (λ s. IsLeastTable game.now s.values) }
 {
     match opening(alloc, game) {
-        Ok(table) => Ok(solve_one_from(game, table, &Silent)),
+        Ok(table) => Ok(solve_one_from(game, table)),
         Err(memory) => Err(memory),
     }
 }
 
-/// The least progress table of a game, on one thread, from any table of the game. An observer is told that lifting begins, and then of every
-/// 4,096th lift.
-pub fn solve_one_from<O: Observer>(game: &Game, mut table: PlainTable, observer: &O) -> Settled
+/// The least progress table of a game, on one thread, from any table of the game.
+pub fn solve_one_from(game: &Game, mut table: PlainTable) -> Settled
     requires { table.game ≡ game.now }
     ensures game { result.game ≡ game.now }
     ensures least { IsLeastTable game.now result.values }
 {
-    settle_seen(game, &mut table, observer);
+    settle(game, &mut table);
     table.into_settled()
 }

@@ -11,26 +11,32 @@ use crate::reasons::run_why;
 use crate::table::run_table;
 use command_line::information::{explanation, help_text, version_text};
 use command_line::line::command;
-use console::refusal::{NO_SOURCES, Refusal, Sources, tell};
+use console::input::take_descriptors;
+use console::line::ProgressLine;
+use console::output::Output;
+use console::refusal::{NO_SOURCES, Refusal, Sources, sources_of, tell};
 use console::same::keep_answer_apart;
+use console::stats::Stats;
 use engines::error::{ArgumentError, MuError};
 use engines::status::{error_status, status_of_answer};
 use invocation::request::Command;
 use lts::put;
 use runs::solve::run_solve;
 use runs::texts::{run_normal, run_replay, run_verify};
+use std::env;
 use std::io::ErrorKind;
 use std::process::ExitCode;
 use std::sync::Wait;
 use std::thread::Threads;
 use std::time::Clock;
-use std::{env, io};
 
 fn main(rt: HostRuntime) -> ExitCode {
+    let taken = take_descriptors(&rt);
     let status = match words(&rt) {
         Ok(words) => run(&rt, &rt, &words),
-        Err(error) => ended(&rt, &NO_SOURCES, Err(Refusal::Told(error))),
+        Err(error) => ended(&rt, &NO_SOURCES, Err(Refusal::from(error))),
     };
+    drop(taken);
     ExitCode::from(status)
 }
 
@@ -42,10 +48,10 @@ fn run<T: Threads + Wait + Clock + Clone + Copy + Drop + Send + Sync + 'static>(
 ) -> u8 {
     match command(rt.alloc(), words) {
         Ok(command) => {
-            let sources = Sources::of(&command);
+            let sources = sources_of(&command);
             ended(rt, &sources, run_command(rt, threads, &command))
         }
-        Err(error) => ended(rt, &NO_SOURCES, Err(Refusal::Told(error))),
+        Err(error) => ended(rt, &NO_SOURCES, Err(Refusal::from(error))),
     }
 }
 
@@ -72,13 +78,13 @@ fn run_command<T: Threads + Wait + Clock + Clone + Copy + Drop + Send + Sync + '
         Command::Check(request, outputs) => run_check(rt, threads, request, outputs),
         Command::Why(request) => run_why(rt, threads, request),
         Command::Table(request) => return run_table(rt, threads, request),
-        Command::Normal(request) => run_normal(rt, request),
+        Command::Normal(request) => run_normal(rt, threads, request),
         Command::Solve(request) => run_solve(rt, threads, request),
-        Command::Verify(request) => run_verify(rt, request),
+        Command::Verify(request) => run_verify(rt, threads, request),
         Command::Replay(request) => run_replay(rt, threads, request),
-        Command::Explain(code) => show(rt, explanation(rt.alloc(), code)),
-        Command::Help(command) => show(rt, help_text(rt.alloc(), *command)),
-        Command::Version => show(rt, version_text(rt.alloc())),
+        Command::Explain(code) => show(rt, threads, explanation(rt.alloc(), code)),
+        Command::Help(command) => show(rt, threads, help_text(rt.alloc(), *command)),
+        Command::Version => show(rt, threads, version_text(rt.alloc())),
     };
     match answer {
         Ok(answer) => Ok(status_of_answer(answer)),
@@ -87,9 +93,21 @@ fn run_command<T: Threads + Wait + Clock + Clone + Copy + Drop + Send + Sync + '
 }
 
 /// Writes a text that was asked for.
-fn show(rt: &HostRuntime, text: Result<String, MuError>) -> Result<bool, Refusal> {
-    put(&mut io::writer(rt), text?.as_bytes()).map_err(MuError::Write)?;
-    Ok(true)
+fn show<T: Threads + Wait + Clock + Clone + Copy + Drop + Send + Sync + 'static>(
+    rt: &HostRuntime,
+    threads: &T,
+    text: Result<String, MuError>,
+) -> Result<bool, Refusal> {
+    let text = text?;
+    let line = ProgressLine::new(*rt, threads, Stats::Nothing, None);
+    let mut out = Output::new(*rt, &line);
+    let answer = match put(&mut out, text.as_bytes()) {
+        Ok(()) => Ok(true),
+        Err(fault) => Err(MuError::Write(fault)),
+    };
+    let answer = out.conclude(answer);
+    drop(line);
+    answer
 }
 
 /// The words of the command line. Arguments that are no text are wrong arguments.

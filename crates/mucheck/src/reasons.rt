@@ -1,7 +1,8 @@
 // The command `why`.
 
 use console::input::{CountedInput, label_hasher, open};
-use console::line::{Output, ProgressLine};
+use console::line::ProgressLine;
+use console::output::Output;
 use console::refusal::Refusal;
 use console::stats::Stats;
 use engines::reasons::tell_why;
@@ -21,6 +22,7 @@ pub fn run_why<T: Threads + Wait + Clock + Clone + Copy + Drop + Send + Sync + '
     let hasher = label_hasher(rt)?;
     let line = ProgressLine::new(*rt, threads, Stats::Nothing, None);
     let ticker = line.start();
+    let mut out = Output::new(*rt, &line);
     let answer = tell_why(
         threads,
         rt.alloc(),
@@ -28,10 +30,11 @@ pub fn run_why<T: Threads + Wait + Clock + Clone + Copy + Drop + Send + Sync + '
         hasher,
         CountedInput::new(system, &line),
         CountedInput::new(formula, &line),
-        &mut Output::new(*rt, &line),
+        &mut out,
         &line,
     );
     line.finish(ticker);
+    let answer = out.conclude(answer);
     drop(line);
-    Ok(answer?)
+    answer
 }

@@ -10,15 +10,32 @@ pub enum Stage {
     /// The formula's text is read.
     ReadingFormula,
     /// The game of a system with so many states is built.
-    Building { states: u32 },
+    Building {
+        states: u32,
+    },
     /// Who wins, or the least progress table, is searched for in a game with so many vertices.
-    Searching { vertices: u32 },
+    Searching {
+        vertices: u32,
+    },
     /// A game with so many vertices is lifted, and so many lifts were done.
-    Lifting { vertices: u32, lifts: u64 },
+    Lifting {
+        vertices: u32,
+        lifts: u64,
+    },
+    /// The worker of this number has taken its last turn, after so many at vertices, in so many of which a measure rose.
+    Worked {
+        worker: usize,
+        turns: u64,
+        rises: u64,
+    },
     /// The formula is evaluated by sets of a system's states, of which there are so many.
-    Evaluating { states: u32 },
+    Evaluating {
+        states: u32,
+    },
     /// Evidence or a witness is made in a game with so many vertices.
-    MakingEvidence { vertices: u32 },
+    MakingEvidence {
+        vertices: u32,
+    },
     /// What was found is written.
     Writing,
 }
@@ -41,53 +58,5 @@ impl Observer for Silent {
 
     fn gauge(&self) -> Option<&Gauge> {
         None
-    }
-}
-
-/// How many lifts are done from one telling to the next.
-pub const LIFTS_APART: u64 = 4096;
-
-/// Counts the lifts of one thread, and tells of them now and then.
-pub(crate) struct Lifts<'a, O> {
-    observer: &'a O,
-    vertices: u32,
-    done: u64,
-}
-
-impl<'a, O: Observer> Lifts<'a, O> {
-    /// None yet, of which the observer is told.
-    pub(crate) fn new(observer: &'a O, vertices: u32) -> Self {
-        let lifts = Lifts {
-            observer,
-            vertices,
-            done: 0,
-        };
-        lifts.tell();
-        lifts
-    }
-
-    /// One more.
-    pub(crate) fn count(&mut self) {
-        self.done = self.done.wrapping_add(1);
-        if self.done % LIFTS_APART == 0 {
-            self.tell();
-        }
-    }
-
-    fn tell(&self) {
-        self.observer.sees(Stage::Lifting {
-            vertices: self.vertices,
-            lifts: self.done,
-        });
-    }
-}
-
-impl<O> Drop for Lifts<'_, O> {
-    fn drop(self) {
-        let Lifts {
-            observer: _,
-            vertices: _,
-            done: _,
-        } = self;
     }
 }

@@ -6,12 +6,11 @@ ghost use Rattle.progress.specs.Lifting.{height, sum_of};
 ghost use Rattle.progress.specs.Progress.{IsLeastTable, IsProgress};
 ghost use Rattle.progress.specs.Settling.{Sweeps};
 
-use crate::observer::{Lifts, Observer, Silent};
 use crate::table::{PlainTable, Settled};
 use game::graph::Game;
 
 // Lifts each vertex once. The answer says whether one rose.
-fn sweep<O: Observer>(game: &Game, table: &mut PlainTable, lifts: &mut Lifts<'_, O>) -> bool
+fn sweep(game: &Game, table: &mut PlainTable) -> bool
     requires { table.old.game ≡ game.now }
     ensures game { table.new.game ≡ game.now }
     ensures sweeps { Sweeps game.now table.old.values table.new.values result }
@@ -19,7 +18,6 @@ fn sweep<O: Observer>(game: &Game, table: &mut PlainTable, lifts: &mut Lifts<'_,
 {
     let mut rose = false;
     for v in (0..game.vertices()).rev() {
-        lifts.count();
         if table.lift_at(game, v) {
             rose = true;
         }
@@ -29,7 +27,7 @@ fn sweep<O: Observer>(game: &Game, table: &mut PlainTable, lifts: &mut Lifts<'_,
 }
 
 // Lifts the vertices that may rise, as long as some are noted.
-fn drain<O: Observer>(game: &Game, table: &mut PlainTable, lifts: &mut Lifts<'_, O>)
+fn drain(game: &Game, table: &mut PlainTable)
     requires { table.old.game ≡ game.now }
     ensures game { table.new.game ≡ game.now }
     ensures kept { sum_of game.now table.old.values ≤ sum_of game.now table.new.values }
@@ -37,7 +35,6 @@ fn drain<O: Observer>(game: &Game, table: &mut PlainTable, lifts: &mut Lifts<'_,
     for _ in 0..u64::MAX {
         match table.next_pending() {
             Some(v) if v < game.vertices() => {
-                lifts.count();
                 table.lift_at(game, v);
             }
             _ => return,
@@ -48,25 +45,15 @@ fn drain<O: Observer>(game: &Game, table: &mut PlainTable, lifts: &mut Lifts<'_,
 /// Leaves the least progress table. It takes no memory.
 ///
 /// It drains the list of what may rise, which is fast, and ends when a sweep over all vertices raises none.
+#[tactic(auto, using(crate::proofs::Settling::swept_least))]
 pub fn settle(game: &Game, table: &mut PlainTable)
     requires { table.old.game ≡ game.now }
     ensures game { table.new.game ≡ game.now }
     ensures least { IsLeastTable game.now table.new.values }
 {
-    settle_seen(game, table, &Silent);
-}
-
-/// Leaves the least progress table, and tells an observer as it goes on. It takes no memory.
-#[tactic(auto, using(crate::proofs::Settling::swept_least))]
-pub fn settle_seen<O: Observer>(game: &Game, table: &mut PlainTable, observer: &O)
-    requires { table.old.game ≡ game.now }
-    ensures game { table.new.game ≡ game.now }
-    ensures least { IsLeastTable game.now table.new.values }
-{
-    let mut lifts = Lifts::new(observer, game.vertices());
     loop {
-        drain(game, table, &mut lifts);
-        let rose = sweep(game, table, &mut lifts);
+        drain(game, table);
+        let rose = sweep(game, table);
         if !rose {
             table.known();
             return;

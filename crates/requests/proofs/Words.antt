@@ -37,7 +37,9 @@ refused_looked first second strict way writers was text (Err e) spelled whole as
     by : (e : MuError) → IsLookRefusal was.system.system text e → HasRefusedBy strict way first second writers e
     by (error.NoLabel place) k = inr (record {
       place = place;
+      f = closed_formula was.formula;
       asked = asked;
+      spelled = spelled.formula;
       absent = record { l = was.system.system; system = spelled.system.spelled; absent = subst (λ t. IsFirstAbsent was.system.system t (Some place)) whole k };
       is = refl;
       kept = kept;

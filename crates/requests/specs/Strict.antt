@@ -1,12 +1,13 @@
 -- What a check answers that may be strict about the words of its formula: its names and its quoted labels.
 use Rattle.std.specs.Prelude.{◌≡◌, ◌⊎◌, ℕ, Bool, List, Option, Some, None, Result, MatchResult, IsTrue}
 use Rattle.systems.specs.System.{System}
+use Rattle.calculus.specs.Tree.{Formula}
 use Rattle.lts.specs.Aut.{IsAut}
 use Rattle.hints.specs.Absent.{IsFirstAbsent}
 use Rattle.requests.specs.declared.error.MuError.{MuError}
 use Rattle.requests.specs.declared.error.MuError.TheVariants as error
 use Rattle.requests.specs.Check.{Way, HasReported, RefusesCheck}
-use Rattle.requests.specs.Texts.{IsReadingRefusal}
+use Rattle.requests.specs.Texts.{IsFormulaOf, IsReadingRefusal}
 use Rattle.requests.specs.Writers.{Lent, AreKept}
 
 -- Of the formula's words the first that is on no transition of the system stands at this place, if there is one.
@@ -24,10 +25,12 @@ abbrev pub MayComeFirst : MuError → Type 0
 MayComeFirst (error.System e) = Unit {0}
 MayComeFirst e = IsReadingRefusal e
 
--- A word is refused, where that is asked for: the first that is on no transition. Nothing was written.
+-- A word is refused, where that is asked for: the first that is on no transition, of a text that spells a formula. Nothing was written.
 pub record IsWordRefusal (strict : Bool) (first second : List ℕ) (writers : List Lent) (e : MuError) : Type 0 where
   pub place : ℕ
+  pub f : Formula
   pub asked : IsTrue strict
+  pub spelled : IsFormulaOf second f
   pub absent : AreWords first second (Some place)
   pub is : e ≡ error.NoLabel place
   pub kept : AreKept writers

@@ -50,6 +50,8 @@ pub struct Table<'a> {
     pub plain: bool,
     /// With a refusal of each formula of which a name or a quoted label is on no transition.
     pub strict: bool,
+    /// Whether standard error tells of each stage.
+    pub stats: bool,
 }
 
 /// The normal form of a formula, with the priorities of a rule.

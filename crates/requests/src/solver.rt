@@ -1,23 +1,27 @@
 // Solving a game as the options ask for.
 
-ghost use Rattle.std.specs.Prelude.{◌≡◌, IfErr, IfOk, Some};
+ghost use Rattle.std.specs.Prelude.{◌≡◌, IfErr, IfOk, Some, length};
 ghost use Rattle.std.specs.Arc.{arc_value};
+ghost use Rattle.calculus.specs.Meaning.{MarksOf};
 ghost use Rattle.game.specs.Game.{Game};
-ghost use Rattle.workers.specs.Team.{IsTeamRefusal};
+ghost use Rattle.game.specs.Wins.{Wins};
+ghost use Rattle.workers.specs.Team.{IsTeamRefusal, MayBeRaised};
+ghost use Rattle.workers.specs.declared.team.BoardKind.{BoardKind};
 ghost use Rattle.requests.specs.Solver.{FitsBoard, IsUnsolved};
 
 use crate::error::MuError;
 use crate::request::Options;
+use certify::decide::certified_winners;
 use game::graph::Game;
-use measures::observer::Observer;
-use measures::table::{PlainTable, Settled, opening};
-use std::alloc::Global;
+use measures::observer::{Observer, Stage};
+use measures::settle::even_wins;
+use measures::table::Settled;
+use std::alloc::{AllocError, Global};
 use std::sync::{Arc, Wait};
 use std::thread::Threads;
-use text::Memory;
-use workers::error::{SolveError, TeamError};
-use workers::gate::Gate;
-use workers::team::{BoardKind, Team, fits_words, solve_by};
+use workers::error::TeamError;
+use workers::gate::{Gate, NoGate};
+use workers::team::{Team, solve_by};
 
 // The refusal of a team.
 fn refusal(error: TeamError) -> MuError
@@ -29,56 +33,8 @@ fn refusal(error: TeamError) -> MuError
     }
 }
 
-/// Whether the board can be had for the game.
-///
-/// # Errors
-/// T1 where it can't.
-pub fn require_board(game: &Game, board: BoardKind) -> Result<(), MuError>
-    ensures board { IfOk result (λ _. FitsBoard (Some board) game.now) }
-    ensures refusal { IfErr result (IsUnsolved (Some board) game.now) }
-{
-    match fits_words(game, board) {
-        Ok(_) => Ok(()),
-        Err(error) => Err(refusal(error)),
-    }
-}
-
-/// The least progress table of a game, which the workers lift from this table of it on, over the board that the options ask for. The gate is told of
-/// each turn, and an observer that lifting begins, and of lifts now and then.
-///
-/// # Errors
-/// T1 where the packed board is asked for and the rank of top doesn't fit a word, and only there; T2 for memory.
-pub fn lift_seen<
-    G: Gate + Sync,
-    O: Observer + Sync,
-    R: Threads + Wait + Clone + Copy + Drop + Send + Sync,
->(
-    rt: &R,
-    alloc: Global,
-    game: &Arc<Game, Global>,
-    options: &Options,
-    gate: &G,
-    observer: &O,
-    table: PlainTable,
-) -> Result<Settled, MuError>
-    requires { table.game ≡ arc_value game.now }
-    ensures game { IfOk result (λ s. s.game ≡ arc_value game.now) }
-    ensures board { IfOk result (λ _. FitsBoard (Some options.now.board) (arc_value game.now)) }
-    ensures refusal { IfErr result (IsUnsolved (Some options.now.board) (arc_value game.now)) }
-{
-    let team = Team {
-        workers: options.workers,
-        shards: options.shards,
-        board: options.board,
-    };
-    match solve_by(rt, alloc, game, &team, gate, observer, table) {
-        Ok(settled) => Ok(settled),
-        Err(error) => Err(refusal(error)),
-    }
-}
-
-/// The least progress table of a game, which the workers lift from the opening table on, over the board that the options ask for. The gate is told of
-/// each turn, and an observer that lifting begins, and of lifts now and then.
+/// The least progress table of a game, which the workers lift over the board that the options ask for: from the opening table on, or from one with top at
+/// each vertex that isn't won, where it is told which are won. The gate is told of each turn, and an observer of what `workers::team::solve_by` tells.
 ///
 /// # Errors
 /// T1 where the packed board is asked for and the rank of top doesn't fit a word, and only there; T2 and V1 for memory.
@@ -93,14 +49,67 @@ pub fn solve_seen<
     options: &Options,
     gate: &G,
     observer: &O,
+    won: Option<&[bool]>,
 ) -> Result<Settled, MuError>
+    requires { MayBeRaised (arc_value game.now) won }
     ensures game { IfOk result (λ s. s.game ≡ arc_value game.now) }
     ensures board { IfOk result (λ _. FitsBoard (Some options.now.board) (arc_value game.now)) }
     ensures refusal { IfErr result (IsUnsolved (Some options.now.board) (arc_value game.now)) }
 {
-    require_board(game, options.board)?;
-    match opening(alloc, game) {
-        Ok(table) => lift_seen(rt, alloc, game, options, gate, observer, table),
-        Err(Memory) => Err(MuError::Solve(SolveError::Memory)),
+    let team = Team {
+        workers: options.workers,
+        shards: options.shards,
+        board: options.board,
+    };
+    match solve_by(rt, alloc, game, &team, gate, observer, won) {
+        Ok(settled) => Ok(settled),
+        Err(error) => Err(refusal(error)),
     }
+}
+
+/// A mark for each vertex, true where Even wins it. Over a board that is named workers lift. Else evidence of both players is guessed, and workers lift
+/// where none is found that is good.
+///
+/// # Errors
+/// Those of `solve_seen`, and U4.
+pub fn winners_by<O: Observer + Sync, R: Threads + Wait + Clone + Copy + Drop + Send + Sync>(
+    rt: &R,
+    alloc: Global,
+    game: &Arc<Game, Global>,
+    options: &Options,
+    observer: &O,
+) -> Result<Vec<bool>, MuError>
+    ensures exact { IfOk result (λ marks. MarksOf (length (arc_value game.now).vertices) marks.items (Wins (arc_value game.now))) }
+    ensures board { IfOk result (λ _. FitsBoard (Some options.now.board) (arc_value game.now)) }
+    ensures refusal { IfErr result (IsUnsolved (Some options.now.board) (arc_value game.now)) }
+{
+    if !options.board.is_named() {
+        observer.sees(Stage::Searching {
+            vertices: game.vertices(),
+        });
+        let workers = options.workers as usize;
+        if let Some(marks) = certified_winners(rt, alloc, game, workers, observer.gauge()) {
+            return Ok(marks);
+        }
+    }
+    match solve_seen(rt, alloc, game, options, &NoGate, observer, None) {
+        Ok(settled) => match marks_of(alloc, game, &settled) {
+            Ok(marks) => Ok(marks),
+            Err(AllocError) => Err(MuError::Memory),
+        },
+        Err(error) => Err(error),
+    }
+}
+
+// A mark for each vertex of a solved game, true where Even wins it.
+fn marks_of(alloc: Global, game: &Game, settled: &Settled) -> Result<Vec<bool>, AllocError>
+    requires { settled.now.game ≡ game.now }
+    ensures { IfOk result (λ marks. MarksOf (length game.now.vertices) marks.items (Wins game.now)) }
+{
+    let vertices = game.vertices();
+    let mut marks = Vec::with_capacity(alloc, vertices as usize)?;
+    for v in 0..vertices {
+        marks.push(even_wins(settled, v))?;
+    }
+    Ok(marks)
 }

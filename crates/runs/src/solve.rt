@@ -2,11 +2,13 @@
 
 use commands::solve_text::solve_asked;
 use console::files::{Files, evidence_names};
-use console::input::{CountedInput, open};
-use console::line::{Output, ProgressLine};
+use console::input::{CountedInput, Input, open};
+use console::line::ProgressLine;
+use console::output::Output;
 use console::refusal::Refusal;
 use console::same::keep_game_apart;
 use console::stats::{Activity, Stats};
+use invocation::names::EvidenceNames;
 use requests::request::Solve;
 use std::sync::Wait;
 use std::thread::Threads;
@@ -22,10 +24,21 @@ pub fn run_solve<T: Threads + Wait + Clock + Clone + Copy + Drop + Send + Sync +
     threads: &T,
     request: &Solve<'_>,
 ) -> Result<bool, Refusal> {
-    let names = evidence_names(rt, request.evidence)?;
-    keep_game_apart(rt, request, names.as_ref())?;
+    let names = names_apart(rt, request)?;
     let game = open(rt, request.game)?;
     let files = Files::new(rt, None, names, None);
+    let answer = solve_opened(rt, threads, request, game, &files);
+    files.conclude(answer)
+}
+
+/// Solves the game that is open, in a run that has a line.
+fn solve_opened<T: Threads + Wait + Clock + Clone + Copy + Drop + Send + Sync + 'static>(
+    rt: &HostRuntime,
+    threads: &T,
+    request: &Solve<'_>,
+    game: Input,
+    files: &Files<'_>,
+) -> Result<bool, Refusal> {
     let stats = if request.stats {
         Stats::Stages
     } else {
@@ -34,21 +47,42 @@ pub fn run_solve<T: Threads + Wait + Clock + Clone + Copy + Drop + Send + Sync +
     let line = ProgressLine::new(*rt, threads, stats, None);
     let ticker = line.start();
     line.step(Activity::ReadingGame);
-    let mut out = Output::new(*rt, &line);
+    let game = CountedInput::new(game, &line);
+    let answer = solve_to(rt, threads, request, game, files, &line);
+    line.finish(ticker);
+    drop(line);
+    answer
+}
+
+/// Solves the game, and writes to the files that are asked for and to standard output.
+fn solve_to<T: Threads + Wait + Clock + Clone + Copy + Drop + Send + Sync + 'static>(
+    rt: &HostRuntime,
+    threads: &T,
+    request: &Solve<'_>,
+    game: CountedInput<'_>,
+    files: &Files<'_>,
+    line: &ProgressLine<'_, T>,
+) -> Result<bool, Refusal> {
+    let mut out = Output::new(*rt, line);
     let answer = solve_asked(
         threads,
         rt.alloc(),
         request,
-        CountedInput::new(game, &line),
+        game,
         &mut files.even(),
         &mut files.odd(),
         &mut out,
-        &line,
+        line,
     );
-    line.finish(ticker);
-    drop(line);
-    match files.into_refusal() {
-        Some(refusal) => Err(refusal),
-        None => Ok(answer?),
+    out.conclude(answer)
+}
+
+/// The names of the files of evidence, where it is asked for, none of which is a file that is read or written otherwise.
+fn names_apart(rt: &HostRuntime, request: &Solve<'_>) -> Result<Option<EvidenceNames>, Refusal> {
+    let names = evidence_names(rt, request.evidence)?;
+    let own = *request;
+    match keep_game_apart(rt, &own, names.as_ref()) {
+        Ok(()) => Ok(names),
+        Err(error) => Err(Refusal::from(error)),
     }
 }

@@ -20,10 +20,11 @@ pub fn read_system<T: Threads + Wait + Clock + Clone + Copy + Drop + Send + Sync
     rt: &HostRuntime,
     threads: &T,
     name: &str,
+    stats: Stats,
 ) -> Result<Lts, Refusal> {
     let system = open(rt, name)?;
     let hasher = label_hasher(rt)?;
-    let line = ProgressLine::new(*rt, threads, Stats::Nothing, None);
+    let line = ProgressLine::new(*rt, threads, stats, None);
     let ticker = line.start();
     line.sees(Stage::ReadingSystem);
     let read = read_aut(rt.alloc(), hasher, CountedInput::new(system, &line));

@@ -4,19 +4,31 @@ use commands::normal_text::normal_asked;
 use commands::replay_text::replay_asked;
 use commands::verify_text::{verify_both_text, verify_text};
 use console::input::{label_hasher, open};
+use console::line::ProgressLine;
+use console::output::Output;
 use console::refusal::Refusal;
+use console::stats::Stats;
 use requests::request::{Normalize, Replay, Verify};
-use std::io;
+use std::sync::Wait;
 use std::thread::Threads;
+use std::time::Clock;
 
 /// Writes the normal form of a formula, and answers true.
 ///
 /// # Errors
 /// U2, and those of `normal_asked`.
-pub fn run_normal(rt: &HostRuntime, request: &Normalize<'_>) -> Result<bool, Refusal> {
+pub fn run_normal<T: Threads + Wait + Clock + Clone + Copy + Drop + Send + Sync + 'static>(
+    rt: &HostRuntime,
+    threads: &T,
+    request: &Normalize<'_>,
+) -> Result<bool, Refusal> {
     let formula = open(rt, request.formula)?;
-    let out = &mut io::writer(rt);
-    Ok(normal_asked(rt.alloc(), request, formula, out)?)
+    let line = ProgressLine::new(*rt, threads, Stats::Nothing, None);
+    let mut out = Output::new(*rt, &line);
+    let answer = normal_asked(rt.alloc(), request, formula, &mut out);
+    let answer = out.conclude(answer);
+    drop(line);
+    answer
 }
 
 /// Writes the verdict on evidence, and answers whether it is good. All files are opened, in the order of the command line, before the first is
@@ -24,17 +36,26 @@ pub fn run_normal(rt: &HostRuntime, request: &Normalize<'_>) -> Result<bool, Ref
 ///
 /// # Errors
 /// U2, and those of `verify_text` and of `verify_both_text`.
-pub fn run_verify(rt: &HostRuntime, request: &Verify<'_>) -> Result<bool, Refusal> {
+pub fn run_verify<T: Threads + Wait + Clock + Clone + Copy + Drop + Send + Sync + 'static>(
+    rt: &HostRuntime,
+    threads: &T,
+    request: &Verify<'_>,
+) -> Result<bool, Refusal> {
     let game = open(rt, request.game)?;
     let evidence = open(rt, request.evidence)?;
-    let out = &mut io::writer(rt);
-    match request.other {
-        None => Ok(verify_text(rt.alloc(), game, evidence, out)?),
-        Some(other) => {
-            let other = open(rt, other)?;
-            Ok(verify_both_text(rt.alloc(), game, evidence, other, out)?)
-        }
-    }
+    let other = match request.other {
+        None => None,
+        Some(name) => Some(open(rt, name)?),
+    };
+    let line = ProgressLine::new(*rt, threads, Stats::Nothing, None);
+    let mut out = Output::new(*rt, &line);
+    let answer = match other {
+        None => verify_text(rt.alloc(), game, evidence, &mut out),
+        Some(other) => verify_both_text(rt.alloc(), game, evidence, other, &mut out),
+    };
+    let answer = out.conclude(answer);
+    drop(line);
+    answer
 }
 
 /// Writes what comes of a schedule, and answers as `replay_asked` does. All files are opened, in the order of the command line, before the first is
@@ -42,7 +63,7 @@ pub fn run_verify(rt: &HostRuntime, request: &Verify<'_>) -> Result<bool, Refusa
 ///
 /// # Errors
 /// U2, and those of `replay_asked`.
-pub fn run_replay<T: Threads + Sync>(
+pub fn run_replay<T: Threads + Wait + Clock + Clone + Copy + Drop + Send + Sync + 'static>(
     rt: &HostRuntime,
     threads: &T,
     request: &Replay<'_>,
@@ -51,8 +72,9 @@ pub fn run_replay<T: Threads + Sync>(
     let formula = open(rt, request.formula)?;
     let schedule = open(rt, request.schedule)?;
     let hasher = label_hasher(rt)?;
-    let out = &mut io::writer(rt);
-    Ok(replay_asked(
+    let line = ProgressLine::new(*rt, threads, Stats::Nothing, None);
+    let mut out = Output::new(*rt, &line);
+    let answer = replay_asked(
         threads,
         rt.alloc(),
         request,
@@ -60,6 +82,9 @@ pub fn run_replay<T: Threads + Sync>(
         system,
         formula,
         schedule,
-        out,
-    )?)
+        &mut out,
+    );
+    let answer = out.conclude(answer);
+    drop(line);
+    answer
 }

@@ -135,7 +135,7 @@ fn add_table(text: &mut String, table: &Table<'_>) -> Result<(), AllocError> {
     add_files(text, table.formulas.as_slice())?;
     add_options(text, &table.options)?;
     add(text, &[truth(table.plain)])?;
-    add_marks(text, table.strict, false)
+    add_marks(text, table.strict, table.stats)
 }
 
 fn add_solve(text: &mut String, solve: &Solve<'_>) -> Result<(), AllocError> {
@@ -357,8 +357,8 @@ static OTHERS: [(&str, &str); 28] = [
         "table s f,g nested 1 16 auto false strict",
     ),
     (
-        "mucheck table s --plain f --strict",
-        "table s f nested 1 16 auto true strict",
+        "mucheck table s --plain f --strict --stats",
+        "table s f nested 1 16 auto true strict stats",
     ),
     ("mucheck why s f", "why s f nested 1 16 auto"),
     (

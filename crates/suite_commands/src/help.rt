@@ -22,8 +22,8 @@ Options:
   -h, --help     Print help
   -V, --version  Print version
 
-mucheck help COMMAND says more of a command. One of the files that it reads may be -, which
-is standard input.
+mucheck help COMMAND says more of a command; for a pager, mucheck help | less. One of the
+files that it reads may be -, which is standard input.
 
 A refusal begins with a line on standard error, mucheck: CODE, with its place. The command
 mucheck explain CODE says what it means and how to mend it. The most frequent:

@@ -10,6 +10,8 @@ mod common;
 #[cfg(test)]
 mod help;
 #[cfg(test)]
+mod named_boards;
+#[cfg(test)]
 mod replays;
 #[cfg(test)]
 mod solved_games;

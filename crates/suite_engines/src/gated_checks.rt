@@ -1,7 +1,7 @@
 // Checks by workers over boards: that neither shows in a report, when a board can't be had, and that both workers take turns.
 // The reports are those that were worked out by hand; the least system without a packed board is computed from the definition.
 
-use crate::common::{holds, repeats, ring_of, says};
+use crate::common::{holds, is_text, repeats, ring_of, says};
 use crate::engine_reports::{refuses_as, ring_report};
 use engines::engine::{check, check_gated};
 use engines::error::MuError;
@@ -11,10 +11,13 @@ use fixtures::meeting::Meeting;
 use fixtures::texts::{EVEN_OF_OFTEN_A, ODD_OF_OFTEN_A, OFTEN_A};
 use forms::priorities::Priorities;
 use samples::texts::{RING, unseeded};
+use samples::writers::{AMPLE, Narrow};
 use std::alloc::Global;
 use std::process::Abort;
 use std::sync::Wait;
+use std::sync::atomic::{AtomicU64, Ordering};
 use std::thread::Threads;
+use workers::gate::Gate;
 
 // The options of so many workers over this board. Each row of the tests is within the limits.
 fn options(workers: u32, shards: u32, board: BoardKind) -> Option<Options> {
@@ -111,6 +114,10 @@ fn as_many_workers_as_may_be_show_in_no_report(rt: HostRuntime) {
     shows_no_team(&rt, 64, 256, BoardKind::Auto)
 }
 
+// The report of a check on the ring, whether each state does `a` again and again.
+const REPORT_OF_OFTEN_A: &str =
+    "system 2 states 2 transitions initial 0\nformula (nu X. (mu Y. (<a>X || <b>Y)))\nyes 2 of 2\ninitial yes\n0 yes\n1 yes\n";
+
 // The texts that a check writes beside its report.
 #[derive(Drop)]
 struct Texts {
@@ -132,22 +139,18 @@ impl Texts {
 
     // Whether they are those of the ring on which each state does `a` again and again.
     fn are_often_a(&self) -> bool {
-        let report =
-            "system 2 states 2 transitions initial 0\nformula (nu X. (mu Y. (<a>X || <b>Y)))\nyes 2 of 2\ninitial yes\n0 yes\n1 yes\n";
         self.game.as_slice() == OFTEN_A.as_bytes()
             && self.even.as_slice() == EVEN_OF_OFTEN_A.as_bytes()
             && self.odd.as_slice() == ODD_OF_OFTEN_A.as_bytes()
-            && self.report.as_slice() == report.as_bytes()
+            && self.report.as_slice() == REPORT_OF_OFTEN_A.as_bytes()
     }
 }
 
 // A check on the ring writes all of them, by this team before whose turns the gate stands.
-fn check_all<R: Abort + AllocGlobal + Threads + Wait + Clone + Copy + Drop + Send + Sync>(
-    rt: &R,
-    options: &Options,
-    gate: &Meeting,
-    texts: &mut Texts,
-) -> Result<bool, MuError> {
+fn check_all<
+    G: Gate + Sync,
+    R: Abort + AllocGlobal + Threads + Wait + Clone + Copy + Drop + Send + Sync,
+>(rt: &R, options: &Options, gate: &G, texts: &mut Texts) -> Result<bool, MuError> {
     let (system, formula) = (RING.as_bytes(), "nu X. mu Y. (<a>X || <b>Y)".as_bytes());
     let evidence = EvidenceWriters::Both(&mut texts.even, &mut texts.odd);
     let (out, game) = (&mut texts.report, Some(&mut texts.game));
@@ -183,6 +186,84 @@ fn two_workers_of_a_check_meet(rt: HostRuntime) {
     meet(&rt, BoardKind::Locked);
     meet(&rt, BoardKind::Packed);
     meet(&rt, BoardKind::Auto);
+}
+
+// A writer with room for every text here, which takes no memory.
+fn ready(rt: &(impl Abort + AllocGlobal)) -> Narrow {
+    Narrow::ready(rt.alloc(), AMPLE).expect(rt, "memory")
+}
+
+// Two workers over this board write all texts, or there is no answer and nothing is written.
+fn writes_all_or_nothing<
+    R: Abort + AllocGlobal + Threads + Wait + Clone + Copy + Drop + Send + Sync,
+>(rt: &R, board: BoardKind) {
+    let (mut game, mut report) = (ready(rt), ready(rt));
+    let (mut even, mut odd) = (ready(rt), ready(rt));
+    let answer = check(
+        rt,
+        rt.alloc(),
+        unseeded(),
+        RING.as_bytes(),
+        b"nu X. mu Y. (<a>X || <b>Y)".as_slice(),
+        &team(rt, 2, 16, board),
+        &mut report,
+        Some(&mut game),
+        EvidenceWriters::Both(&mut even, &mut odd),
+    );
+    let is_whole = answer.is_ok();
+    for (writer, text) in [
+        (&game, OFTEN_A),
+        (&even, EVEN_OF_OFTEN_A),
+        (&odd, ODD_OF_OFTEN_A),
+        (&report, REPORT_OF_OFTEN_A),
+    ] {
+        is_text(
+            rt,
+            writer.taken.as_slice(),
+            if is_whole { text } else { "" },
+        );
+    }
+}
+
+// Each growth may be refused: nothing is written then. tests/refusals refuses each in turn.
+#[test]
+fn workers_of_a_check_want_memory_before_they_write(rt: HostRuntime) {
+    writes_all_or_nothing(&rt, BoardKind::Locked);
+    writes_all_or_nothing(&rt, BoardKind::Packed);
+}
+
+// Counts turns.
+#[derive(Drop)]
+struct Turns {
+    count: AtomicU64,
+}
+
+impl Gate for Turns {
+    fn before(&self, _worker: usize, _v: u32) {
+        self.count.fetch_add(1, Ordering::SeqCst);
+    }
+}
+
+// One worker takes a turn at each of the sixteen vertices at least, and what it finds is written.
+fn takes_turns<R: Abort + AllocGlobal + Threads + Wait + Clone + Copy + Drop + Send + Sync>(
+    rt: &R,
+    board: BoardKind,
+) {
+    let mut texts = Texts::new(rt.alloc());
+    let gate = Turns {
+        count: AtomicU64::new(0),
+    };
+    let answer = check_all(rt, &team(rt, 1, 16, board), &gate, &mut texts);
+    says(rt, "often a", &answer, true);
+    holds!(rt; texts.are_often_a());
+    holds!(rt; gate.count.load(Ordering::SeqCst) >= 16);
+}
+
+#[test]
+fn one_worker_of_a_check_calls_the_gate(rt: HostRuntime) {
+    takes_turns(&rt, BoardKind::Locked);
+    takes_turns(&rt, BoardKind::Packed);
+    takes_turns(&rt, BoardKind::Auto);
 }
 
 // 31 fixpoints in one another, each of a priority of its own. On n states there are n vertices of each odd priority from 3 to 31,

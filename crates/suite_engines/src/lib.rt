@@ -10,6 +10,8 @@ mod faults;
 #[cfg(test)]
 mod gated_checks;
 #[cfg(test)]
+mod named_boards;
+#[cfg(test)]
 mod report_forms;
 #[cfg(test)]
 mod shown_checks;

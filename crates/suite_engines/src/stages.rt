@@ -16,7 +16,7 @@ use std::sync::atomic::{AtomicU64, Ordering};
 use std::thread::Threads;
 
 /// How often each stage was told, a digit for each from the last on: reading the system, reading the formula, building, searching,
-/// lifting, evaluating, writing, making evidence; then how many states the system had that was read.
+/// lifting, evaluating, writing, making evidence, turns of a worker; then how many states the system had that was read.
 #[derive(Drop)]
 struct Told {
     digits: AtomicU64,
@@ -48,6 +48,11 @@ impl Observer for Told {
             Stage::Evaluating { states: _ } => 100_000,
             Stage::Writing => 1_000_000,
             Stage::MakingEvidence { vertices: _ } => 10_000_000,
+            Stage::Worked {
+                worker: _,
+                turns: _,
+                rises: _,
+            } => 100_000_000,
         };
         self.digits.fetch_add(digit, Ordering::SeqCst);
     }

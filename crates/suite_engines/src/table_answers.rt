@@ -25,6 +25,7 @@ fn table(alloc: Global, plain: bool, strict: bool) -> Table<'static> {
         options: DEFAULTS,
         plain,
         strict,
+        stats: false,
     }
 }
 

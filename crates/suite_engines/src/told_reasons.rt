@@ -1,4 +1,4 @@
-// What is told of why an answer is so: texts that were worked out by hand from the witness, which has the winner's moves and all of the opponent's. More of
+// What is told of why an answer is so: texts that were worked out by hand from the play, which has the winner's moves and all of the opponent's. More of
 // them are compared by `tests/answers`.
 
 use crate::common::{DEFAULTS, ample, holds, is_text, is_write_fault, says};
@@ -68,21 +68,22 @@ fn tells<R: Abort + AllocGlobal + Threads + Wait + Clone + Copy + Drop + Send + 
 
 #[test]
 fn an_answer_is_told(rt: HostRuntime) {
-    let text = "formula <a><a>true\ninitial no\n0 -a-> 1 by <a>\n1: no step, no a here\n";
+    let text =
+        "formula <a><a>true\ninitial no: this run breaks it\n0 -a-> 1 by <a>\n1: no a here\n";
     tells(&rt, RING, "<a><a>true", false, text);
 }
 
 /// A beginning is written where the writer fails.
 #[test]
 fn failed_writes_are_told(rt: HostRuntime) {
-    let mut out = Narrow::new(rt.alloc(), 7, 40);
+    let mut out = Narrow::new(rt.alloc(), 7, 46);
     out.at_end = AtEnd::TakesNothing;
     let answer = told(&rt, RING, "<a><a>true", &mut out);
     is_write_fault(&rt, &answer);
     is_text(
         &rt,
         out.taken.as_slice(),
-        "formula <a><a>true\ninitial no\n0 -a-> 1 b",
+        "formula <a><a>true\ninitial no: this run breaks",
     );
 }
 

@@ -54,8 +54,8 @@ pub(crate) fn rises_to_the_settled<B: Board, R: Abort + AllocGlobal>(rt: &R, boa
 }
 
 /// The vertex has risen in what the board is finished into.
-pub(crate) fn is_finished<B: Board, R: Abort + AllocGlobal>(rt: &R, board: &B, game: &Game)
-    requires same { game.now ≡ B.game board.now }
+pub(crate) fn is_finished<B: Board, R: Abort + AllocGlobal>(rt: &R, board: B, game: &Game)
+    requires same { game.now ≡ B.game board }
     requires vertex { 4 < length game.now.vertices }
 {
     let table = finished(rt, board, game);
@@ -65,17 +65,6 @@ pub(crate) fn is_finished<B: Board, R: Abort + AllocGlobal>(rt: &R, board: &B, g
 // A measure that asks for nothing.
 fn is_low(rt: &impl Abort, m: &Measure) {
     holds!(rt; !m.is_top() && m.counts() == [0].as_slice());
-}
-
-// A board that has no way of its own to lift.
-fn is_lifted_by_reads<B: Board>(rt: &impl Abort, board: &B)
-    requires { 4 < length (B.game board.now).vertices }
-{
-    let Ok(mut seat) = board.seat() else {
-        panic!(rt; "no seat")
-    };
-    holds!(rt; board.own_lift(&mut seat, 4).is_none(), "it is lifted by reads");
-    board.last(&mut seat);
 }
 
 // The same over so many shards, and what the board is finished into.
@@ -90,8 +79,7 @@ fn rises_on<K: GameName, R: Abort + AllocGlobal + Wait + Clone + Copy + Drop>(
 {
     let board = board_of_shards::<K, R>(rt, game, shards);
     rises_to_the_settled(rt, &board, game);
-    is_lifted_by_reads(rt, &board);
-    is_finished(rt, &board, game);
+    is_finished(rt, board, game);
 }
 
 // A shard of every second vertex keeps the greater of two measures, and tells whether its own rose.

@@ -4,9 +4,7 @@
 ghost use Rattle.std.specs.Prelude.{◌≡◌, ◌*◌, ◌<◌, ◌≤◌};
 ghost use Rattle.std.specs.Arc.{arc_value};
 
-use crate::common::{
-    board_of_shards, board_of_words, holds, holds_of, is_least, opened, rolled_game,
-};
+use crate::common::{board_of_shards, board_of_words, holds, holds_of, is_least, rolled_game};
 use game::graph::{Game, GameBuilder};
 use game::name::GameName;
 use game::player::Player;
@@ -21,7 +19,7 @@ use std::sync::atomic::{AtomicU64, Ordering};
 use std::sync::{Arc, Wait};
 use std::thread::Threads;
 use workers::gate::{Gate, NoGate};
-use workers::solving::solve_from;
+use workers::solving::solve;
 
 /// Counts the turns of each of 64 workers.
 #[derive(Drop)]
@@ -75,7 +73,7 @@ pub(crate) fn lifted_over_words<G: Gate + Sync, R: Abort + AllocGlobal + Threads
     ensures { result.game ≡ arc_value game.now }
 {
     let board = board_of_words(rt, game, 1);
-    solve_from(rt, rt.alloc(), game, opened(rt, game), board, workers, gate)
+    solve(rt, rt.alloc(), game, board, workers, gate).expect(rt, "memory")
 }
 
 /// How many vertices a ring of a climb has.
@@ -248,15 +246,7 @@ fn lifted_over_shards<
     ensures { result.game ≡ arc_value game.now }
 {
     let board = board_of_shards::<K, R>(rt, game, shards);
-    solve_from(
-        rt,
-        rt.alloc(),
-        game,
-        opened(rt, game),
-        board,
-        workers,
-        &NoGate,
-    )
+    solve(rt, rt.alloc(), game, board, workers, &NoGate).expect(rt, "memory")
 }
 
 // The table that workers over a board come to; how many they are, which board it is and how many shards it has is thrown.

@@ -7,14 +7,14 @@ ghost use Rattle.tables.specs.Seats.{board_game};
 
 use game::graph::Game;
 use game::name::GameName;
-use measures::settle::{is_settled, settle, solve_one};
+use measures::settle::{settle, solve_one};
 use measures::table::{PlainTable, Settled, opening};
 use samples::dice::{Dice, roll_game};
 use samples::games::{Row, game_of_rows, shared_game_of};
 use std::alloc::Global;
 use std::process::Abort;
 use std::sync::{Arc, Wait};
-use tables::board::{Board, finish};
+use tables::board::Board;
 use tables::locked::LockedBoard;
 use tables::packed::PackedBoard;
 
@@ -140,25 +140,13 @@ pub(crate) fn board_of_shards<K: GameName, R: Abort + AllocGlobal + Wait + Clone
 /// What a board is finished into.
 pub(crate) fn finished<B: Board, R: Abort + AllocGlobal>(
     rt: &R,
-    board: &B,
+    board: B,
     game: &Game,
 ) -> PlainTable
-    requires { game.now ≡ B.game board.now }
+    requires { game.now ≡ B.game board }
     ensures { result.game ≡ game.now }
 {
     let mut table = opened(rt, game);
-    finish(board, game, &mut table);
+    board.finish(&mut table);
     table
-}
-
-/// Whether no lift raises what a board is finished into.
-pub(crate) fn is_finished_settled<B: Board, R: Abort + AllocGlobal>(
-    rt: &R,
-    board: &B,
-    game: &Game,
-) -> bool
-    requires { game.now ≡ B.game board.now }
-{
-    let left = finished(rt, board, game);
-    is_settled(game, &left)
 }

@@ -1,7 +1,8 @@
 // A vertex to which very many others lead, and which rises again and again: what it gives workers to lift is bounded by how many vertices
 // there are.
 
-ghost use Rattle.std.specs.Prelude.{◌≡◌, ◌+◌, ◌<◌};
+ghost use Rattle.std.specs.Prelude.{◌≡◌, ◌*◌, ◌+◌, ◌<◌};
+ghost use Rattle.suite_solving.specs.declared.hubs.TheConstants.{BETWEEN};
 
 use crate::climbing_workers::{Turns, built, lifted_over_words};
 use crate::common::{holds, holds_of};
@@ -22,42 +23,49 @@ const COUNTED: u32 = 20;
 /// How often the hub has a turn: it rises through the ones of 22 vertices and then to top, and at last stays.
 const HUB_TURNS: u64 = 24;
 
-/// A game of so many vertices that lead to a hub, as many that stand alone as are asked for, a trap where Odd wins, and the hub.
+/// How many vertices stand alone before the trap, so that none that leads to the hub is in one block with it.
+const BETWEEN: u32 = 32;
+
+/// A game of so many vertices that lead to a hub and stand so far apart, others that stand alone between and behind them, a trap where Odd wins, and the hub.
 #[derive(Clone, Copy)]
 struct Hub {
     leading: u32,
-    alone: u32,
+    apart: u32,
+    ghost some: { 0 < apart },
 }
 
 impl Hub {
     fn trap(self) -> u32
-        requires { self.leading + self.alone < 4000000 }
-        ensures { result ≡ self.leading + self.alone }
+        requires { self.leading * self.apart < 4000000 }
+        ensures { result ≡ self.leading * self.apart + BETWEEN }
     {
-        self.leading + self.alone
+        self.leading * self.apart + BETWEEN
     }
 
     // One more vertex. Even asks for less at the hub by staying there until that is top.
     fn push(self, builder: &mut GameBuilder, v: u32) -> Result<(), AllocError>
-        requires { self.leading + self.alone < 4000000 }
+        requires { self.leading * self.apart < 4000000 }
     {
         let trap = self.trap();
         let hub = trap + 1;
-        if v < COUNTED {
-            push_row(builder, Player::Even, 1, &[hub])
-        } else if v < self.leading {
-            push_row(builder, Player::Even, 0, &[hub])
-        } else if v < trap {
-            push_row(builder, Player::Even, 0, &[v])
-        } else if v == trap {
+        if v == trap {
             push_row(builder, Player::Even, 1, &[trap])
-        } else {
+        } else if v == hub {
             push_row(builder, Player::Even, 1, &[trap, hub])
+        } else if v % self.apart > 0 || v >= trap - BETWEEN {
+            push_row(builder, Player::Even, 0, &[v])
+        } else {
+            push_row(
+                builder,
+                Player::Even,
+                u8::from(v / self.apart < COUNTED),
+                &[hub],
+            )
         }
     }
 
     fn game(self, rt: &(impl Abort + AllocGlobal)) -> Arc<Game, Global>
-        requires { self.leading + self.alone < 4000000 }
+        requires { self.leading * self.apart < 4000000 }
     {
         let mut builder = GameBuilder::new(rt.alloc());
         for v in 0..self.trap() + 2 {
@@ -96,12 +104,13 @@ impl Gate for Holding {
     }
 }
 
-// While the first worker is held, all that lead to the hub are pending. So the hub's rises give none of them, and each has one turn.
+// While the first worker is held, whose own are the even vertices, all that lead to the hub are pending. So the hub's rises give none of them, and each has
+// one turn.
 #[test]
 fn what_is_pending_is_given_once_however_often_its_hub_rises(rt: HostRuntime) {
     let hub = Hub {
         leading: 100_000,
-        alone: 99_998,
+        apart: 2,
     };
     let game = hub.game(&rt);
     let gate = Holding {
@@ -118,11 +127,11 @@ fn what_is_pending_is_given_once_however_often_its_hub_rises(rt: HostRuntime) {
     );
 }
 
-// The first worker had a turn at each vertex that leads to the hub, and all had one at each of so many vertices, beside those of the hub.
+// The first worker had a turn at each vertex that leads to the hub, at half of those behind them and at the trap, where the other one had a turn too, since it stands in the hub's block; and all had one at each of so many vertices, beside those of the hub.
 fn has_turns(rt: &impl Abort, gate: &Holding, leading: u64, others: u64) {
     holds!(rt; gate.of_hub.load(Ordering::SeqCst) == HUB_TURNS);
-    holds!(rt; gate.turns.of(0) == leading);
-    holds!(rt; gate.turns.all() == others.saturating_add(HUB_TURNS));
+    holds!(rt; gate.turns.of(0) == leading.saturating_add(u64::from(BETWEEN) / 2 + 1));
+    holds!(rt; gate.turns.all() == others.saturating_add(HUB_TURNS + 1));
 }
 
 // What the system tells of this process's memory under a name, in kilobytes.
@@ -145,7 +154,7 @@ fn number_behind(status: &str, name: &str) -> Option<u64> {
 fn a_hub_that_a_million_lead_to_is_lifted_in_little_room(rt: HostRuntime) {
     let hub = Hub {
         leading: 1_000_000,
-        alone: 0,
+        apart: 1,
     };
     let game = hub.game(&rt);
     let before = kilobytes(rt, "VmRSS:").expect(&rt, "a number");

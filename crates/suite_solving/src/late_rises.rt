@@ -5,10 +5,12 @@ ghost use Rattle.std.specs.Prelude.{◌≡◌};
 ghost use Rattle.std.specs.Arc.{arc_value};
 ghost use Rattle.tables.specs.Seats.{board_game};
 
-use crate::common::{board_of_words, holds, is_finished_settled, opened, shared_game};
+use crate::common::{board_of_words, holds, shared_game};
 use game::graph::Game;
 use game::player::Player;
 use measures::measure::Measure;
+use measures::settle::is_settled;
+use measures::table::PlainTable;
 use samples::games::Row;
 use std::alloc::Global;
 use std::process::Abort;
@@ -19,24 +21,24 @@ use tables::board::Board;
 use tables::error::TableError;
 use tables::packed::PackedBoard;
 use workers::gate::Gate;
-use workers::solving::solve_from;
+use workers::solving::solve;
 
-// The first three vertices are one worker's own, of which the first reads the fourth. That rises once, at its turn, the first one of another worker.
-// The fifth has its turn after that.
+// Even vertices are one worker's own, of which the first reads the second vertex. That rises once, at its turn, the first one of another worker, whose
+// next turn is at the fourth.
 static ROWS: [Row; 6] = [
     (Player::Even, 0, &[READ]),
-    (Player::Even, 0, &[1]),
-    (Player::Even, 0, &[2]),
     (Player::Even, 1, &[AFTER]),
+    (Player::Even, 0, &[2]),
     (Player::Even, 0, &[5]),
+    (Player::Even, 0, &[4]),
     (Player::Even, 0, &[5]),
 ];
 
 const READER: u32 = 0;
 
-const READ: u32 = 3;
+const READ: u32 = 1;
 
-const AFTER: u32 = 4;
+const AFTER: u32 = 3;
 
 /// How often a worker that is held looks at most.
 const MOST_LOOKS: u64 = 50_000_000;
@@ -47,6 +49,7 @@ struct Order {
     turns: AtomicU64,
     is_lifted: AtomicBool,
     is_over: AtomicBool,
+    is_settled: AtomicBool,
 }
 
 impl Order {
@@ -55,6 +58,7 @@ impl Order {
             turns: AtomicU64::new(0),
             is_lifted: AtomicBool::new(false),
             is_over: AtomicBool::new(false),
+            is_settled: AtomicBool::new(false),
         }
     }
 }
@@ -85,28 +89,26 @@ impl Gate for Order {
 /// A board round another, on which the reader's turn takes long. In the last calls a board may settle itself: they aren't passed on.
 #[derive(Drop)]
 struct Slow<'a, B: Board> {
-    inner: &'a B,
+    inner: B,
     game: &'a Game,
     order: &'a Order,
-    ghost same: { game.now ≡ B.game inner.now },
+    ghost same: { game.now ≡ B.game inner },
 }
 
-impl<'a, B: Board> Board for Slow<'a, B> {
+impl<'a, B: Board + Drop> Board for Slow<'a, B> {
     type Seat = B::Seat;
 
-    ghost game = { λ b. B.game b.inner.now };
+    ghost game = { λ b. B.game b.inner };
 
-    ghost fits = { λ b s. B.fits b.inner.now s };
+    ghost fits = { λ b s. B.fits b.inner s };
 
-    ghost did = { λ b first last accesses. B.did b.inner.now first last accesses };
+    ghost did = { λ b first last accesses. B.did b.inner first last accesses };
 
-    ghost is_full = { λ b. B.is_full b.inner.now };
+    ghost is_full = { λ b. B.is_full b.inner };
 
-    ghost is_read = { λ b. B.is_read b.inner.now };
+    ghost idle = { λ b s. B.idle b.inner s };
 
-    ghost idle = { λ b s. B.idle b.inner.now s };
-
-    ghost chained = { λ b first middle last. B.chained b.inner.now first middle last };
+    ghost chained = { λ b first middle last. B.chained b.inner first middle last };
 
     fn seat(&self) -> Result<B::Seat, TableError> {
         self.inner.seat()
@@ -117,11 +119,7 @@ impl<'a, B: Board> Board for Slow<'a, B> {
     }
 
     fn raise(&self, seat: &mut B::Seat, v: u32, m: &Measure) -> bool {
-        self.inner.raise(seat, v, m)
-    }
-
-    fn own_lift(&self, seat: &mut B::Seat, v: u32) -> Option<bool> {
-        let rose = self.inner.own_lift(seat, v);
+        let rose = self.inner.raise(seat, v, m);
         if v == READER {
             self.order.is_lifted.store(true, Ordering::SeqCst);
             wait_for(&self.order.is_over);
@@ -130,39 +128,35 @@ impl<'a, B: Board> Board for Slow<'a, B> {
     }
 
     fn last(&self, _seat: &mut B::Seat) {}
+
+    fn finish(self, table: &mut PlainTable) {
+        let Slow { inner, game, order } = self;
+        inner.finish(table);
+        order
+            .is_settled
+            .store(is_settled(game, table), Ordering::SeqCst);
+    }
 }
 
-// Two workers lift over the board, of which one is held.
-fn lift_slowly<R: Abort + AllocGlobal + Threads + Wait + Sync>(
-    rt: &R,
-    game: &Arc<Game, Global>,
-    inner: &PackedBoard,
-    order: &Order,
-)
-    requires { board_game inner.now ≡ arc_value game.now }
-{
-    let board = Slow { inner, game, order };
-    let _ = solve_from(rt, rt.alloc(), game, opened(rt, game), board, 2, order);
-}
-
-// What was read has risen, and the reader had two turns.
+// What was read has risen, and the reader had two turns. Two workers lift over the board, of which one is held.
 fn is_read_once_more<R: Abort + AllocGlobal + Threads + Wait + Sync>(
     rt: &R,
     game: &Arc<Game, Global>,
-    inner: &PackedBoard,
+    inner: PackedBoard,
 )
-    requires { board_game inner.now ≡ arc_value game.now }
+    requires { board_game inner ≡ arc_value game.now }
 {
-    let order = Order::new();
-    lift_slowly(rt, game, inner, &order);
+    let order = &Order::new();
+    let board = Slow { inner, game, order };
+    holds!(rt; solve(rt, rt.alloc(), game, board, 2, order).is_ok());
     holds!(rt; order.is_over.load(Ordering::SeqCst));
     holds!(rt; order.turns.load(Ordering::SeqCst) == 2);
+    holds!(rt; order.is_settled.load(Ordering::SeqCst));
 }
 
 #[test]
 fn what_rises_after_it_was_read_gives_its_reader_once_more(rt: HostRuntime) {
     let game = shared_game(&rt, &ROWS);
     let inner = board_of_words(&rt, &game, 1);
-    is_read_once_more(&rt, &game, &inner);
-    holds!(&rt; is_finished_settled(&rt, &inner, &game));
+    is_read_once_more(&rt, &game, inner);
 }

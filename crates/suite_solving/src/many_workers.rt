@@ -4,8 +4,7 @@ ghost use Rattle.std.specs.Prelude.{◌≡◌, ◌<◌};
 ghost use Rattle.std.specs.Arc.{arc_value};
 
 use crate::common::{
-    board_of_shards, board_of_words, holds, holds_of, is_finished_settled, is_least, opened,
-    shared_game,
+    board_of_shards, board_of_words, holds, holds_of, is_least, opened, shared_game,
 };
 use fixtures::meeting::Meeting;
 use game::graph::Game;
@@ -13,19 +12,18 @@ use game::name::GameName;
 use game::player::Player;
 use measures::measure::Measure;
 use measures::settle::is_settled;
-use measures::table::Settled;
+use measures::table::{PlainTable, Settled};
 use samples::games::Row;
 use std::alloc::{AllocError, Global};
 use std::marker::Brand;
 use std::process::Abort;
-use std::sync::atomic::{AtomicU32, AtomicU64, Ordering};
+use std::sync::atomic::{AtomicBool, AtomicU32, AtomicU64, Ordering};
 use std::sync::{Arc, Wait};
 use std::thread::Threads;
 use tables::board::Board;
 use tables::error::TableError;
 use workers::gate::{Gate, NoGate};
-use workers::locked::solve_locked;
-use workers::solving::solve_from;
+use workers::solving::solve;
 
 // A ring on which Odd wins: its greatest priority is odd. Each vertex rises many times before it is top.
 static ODD_RING: [Row; 8] = [
@@ -90,8 +88,20 @@ fn lifted_by<R: Abort + AllocGlobal + Threads + Wait + Clone + Copy + Drop + Sen
     requires workers { 0 < workers }
     ensures { result.game ≡ arc_value game.now }
 {
-    let table = opened(rt, game);
-    solve_locked(rt, rt.alloc(), game, table, shards, workers, &NoGate).expect(rt, "memory")
+    lifted_named::<Brand, R>(rt, game, shards, workers)
+}
+
+fn lifted_named<
+    K: GameName + Send + Sync,
+    R: Abort + AllocGlobal + Threads + Wait + Clone + Copy + Drop + Send + Sync,
+>(rt: &R, game: &Arc<Game, Global>, shards: u32, workers: usize) -> Settled
+    requires named { arc_value game.now ≡ K.game }
+    requires shards { 0 < shards }
+    requires workers { 0 < workers }
+    ensures { result.game ≡ arc_value game.now }
+{
+    let board = board_of_shards::<K, R>(rt, game, shards);
+    solve(rt, rt.alloc(), game, board, workers, &NoGate).expect(rt, "memory")
 }
 
 // The workers' table is that of one thread.
@@ -138,33 +148,17 @@ fn any_number_of_workers_finds_the_least_table(rt: HostRuntime) {
     find_the_least_table(&rt, 8);
 }
 
-fn meet<R: Abort + AllocGlobal + Threads + Wait + Clone + Copy + Drop + Send + Sync>(
-    rt: &R,
-    game: &Arc<Game, Global>,
-) {
-    let gate = Meeting::new();
-    let table = opened(rt, game);
-    holds!(rt; solve_locked(rt, rt.alloc(), game, table, 16, 2, &gate).is_ok());
-    holds!(rt; gate.took_place());
-}
-
-#[test]
-fn two_workers_meet(rt: HostRuntime) {
-    let game = shared_game(&rt, &ODD_RING);
-    meet(&rt, &game);
-}
-
-/// What is noted of a run: of each vertex how often it was read, lifted in the board's own way, and somebody's turn, and of two
-/// seats how often they read or lifted so.
+/// What is noted of a run: of each vertex how often it was read and how often it was somebody's turn, of two seats how often they read, how many seats
+/// there were and had had their last call when the board was finished, and whether what it was finished into was settled.
 #[derive(Drop)]
 struct Notes {
     workers: usize,
     meeting: Meeting,
     seats: AtomicU32,
     lasts: AtomicU32,
-    lasts_at_the_end: AtomicU32,
+    ended: AtomicBool,
+    settled: AtomicBool,
     reads: Vec<AtomicU64>,
-    own_lifts: Vec<AtomicU64>,
     turns: Vec<AtomicU64>,
     by_seats: [AtomicU64; 2],
     ghost some_workers: { 0 < workers },
@@ -206,20 +200,20 @@ impl Notes {
             meeting: Meeting::new(),
             seats: AtomicU32::new(0),
             lasts: AtomicU32::new(0),
-            lasts_at_the_end: AtomicU32::new(0),
+            ended: AtomicBool::new(false),
+            settled: AtomicBool::new(false),
             reads: counters(alloc, vertices)?,
-            own_lifts: counters(alloc, vertices)?,
             turns: counters(alloc, vertices)?,
             by_seats: [AtomicU64::new(0), AtomicU64::new(0)],
         })
     }
 
-    // Whether each successor of a vertex was read at least once in each of its turns, beside the read at the end.
+    // Whether each successor of a vertex was read at least once in each of its turns, and each vertex had one.
     fn are_read(&self, game: &Game) -> bool {
         let mut looked = 0u64;
         for v in 0..game.vertices() {
             for t in game.successors(v) {
-                if counted(&self.reads, *t) <= counted(&self.turns, v) {
+                if counted(&self.reads, *t) < counted(&self.turns, v) {
                     return false;
                 }
             }
@@ -228,19 +222,7 @@ impl Notes {
         looked >= u64::from(game.vertices())
     }
 
-    // Whether each turn of a vertex was a lift in the board's own way.
-    fn are_own(&self, game: &Game) -> bool {
-        let mut looked = 0u64;
-        for v in 0..game.vertices() {
-            if counted(&self.own_lifts, v) != counted(&self.turns, v) {
-                return false;
-            }
-            looked = looked.saturating_add(counted(&self.turns, v));
-        }
-        looked >= u64::from(game.vertices())
-    }
-
-    // Whether two workers met at their first turns, and each of their seats read or lifted. Of another number of workers this asks
+    // Whether two workers met at their first turns, and each of their seats read. Of another number of workers this asks
     // nothing.
     fn both_came(&self) -> bool {
         self.workers != 2
@@ -249,10 +231,19 @@ impl Notes {
                 && counted(&self.by_seats, 1) > 0
     }
 
-    // Whether each worker's seat had its last call before the board gave one more, to be finished by.
-    fn ended_well(&self) -> bool {
+    // Notes whether each seat has had its last call, now that the board is finished.
+    fn note_end(&self) {
         let seats = self.seats.load(Ordering::SeqCst);
-        seats > 1 && self.lasts_at_the_end.load(Ordering::SeqCst) == seats - 1
+        let ended = seats > 0 && self.lasts.load(Ordering::SeqCst) == seats;
+        self.ended.store(ended, Ordering::SeqCst);
+    }
+
+    // Whether the workers did all of it: each seat ended, the vertices were read as often as they should be, and nothing was left to lift.
+    fn ended_well(&self, game: &Game) -> bool {
+        self.ended.load(Ordering::SeqCst)
+            && self.settled.load(Ordering::SeqCst)
+            && self.both_came()
+            && self.are_read(game)
     }
 }
 
@@ -276,33 +267,29 @@ struct NotedSeat<S> {
 /// it is finished into has what the workers did, and no more.
 #[derive(Drop)]
 struct Noted<'a, B: Board> {
-    inner: &'a B,
+    inner: B,
     game: &'a Game,
     notes: &'a Notes,
-    ghost same: { game.now ≡ B.game inner.now },
+    ghost same: { game.now ≡ B.game inner },
 }
 
-impl<'a, B: Board> Board for Noted<'a, B> {
+impl<'a, B: Board + Drop> Board for Noted<'a, B> {
     type Seat = NotedSeat<B::Seat>;
 
-    ghost game = { λ b. B.game b.inner.now };
+    ghost game = { λ b. B.game b.inner };
 
-    ghost fits = { λ b s. B.fits b.inner.now s.inner };
+    ghost fits = { λ b s. B.fits b.inner s.inner };
 
-    ghost did = { λ b first last accesses. B.did b.inner.now first.inner last.inner accesses };
+    ghost did = { λ b first last accesses. B.did b.inner first.inner last.inner accesses };
 
-    ghost is_full = { λ b. B.is_full b.inner.now };
+    ghost is_full = { λ b. B.is_full b.inner };
 
-    ghost is_read = { λ b. B.is_read b.inner.now };
+    ghost idle = { λ b s. B.idle b.inner s.inner };
 
-    ghost idle = { λ b s. B.idle b.inner.now s.inner };
-
-    ghost chained = { λ b first middle last. B.chained b.inner.now first.inner middle.inner last.inner };
+    ghost chained = { λ b first middle last. B.chained b.inner first.inner middle.inner last.inner };
 
     fn seat(&self) -> Result<NotedSeat<B::Seat>, TableError> {
         let inner = self.inner.seat()?;
-        let lasts = self.notes.lasts.load(Ordering::SeqCst);
-        self.notes.lasts_at_the_end.store(lasts, Ordering::SeqCst);
         let number = self.notes.seats.fetch_add(1, Ordering::SeqCst);
         Ok(NotedSeat { inner, number })
     }
@@ -317,53 +304,34 @@ impl<'a, B: Board> Board for Noted<'a, B> {
         self.inner.raise(&mut seat.inner, v, m)
     }
 
-    fn own_lift(&self, seat: &mut NotedSeat<B::Seat>, v: u32) -> Option<bool> {
-        let rose = self.inner.own_lift(&mut seat.inner, v);
-        if rose.is_some() {
-            count(&self.notes.own_lifts, v);
-            count(&self.notes.by_seats, seat.number);
-        }
-        rose
-    }
-
     fn last(&self, _seat: &mut NotedSeat<B::Seat>) {
         self.notes.lasts.fetch_add(1, Ordering::SeqCst);
     }
+
+    fn finish(self, table: &mut PlainTable) {
+        let Noted { inner, game, notes } = self;
+        notes.note_end();
+        inner.finish(table);
+        notes
+            .settled
+            .store(is_settled(game, table), Ordering::SeqCst);
+    }
 }
 
-// Workers lift over a board, of which is noted what they do.
-fn lift_noted<B: Board + Drop + Sync, R: Abort + AllocGlobal + Threads + Wait + Sync>(
-    rt: &R,
-    game: &Arc<Game, Global>,
-    inner: &B,
-    notes: &Notes,
-)
-    requires { B.game inner.now ≡ arc_value game.now }
-{
-    let board = Noted { inner, game, notes };
-    let _ = solve_from(
-        rt,
-        rt.alloc(),
-        game,
-        opened(rt, game),
-        board,
-        notes.workers,
-        notes,
-    );
-}
-
-// Whether they end well.
+// Whether workers who lift over a board end well, and come to the table of one thread.
 fn ends_well_on<B: Board + Drop + Sync, R: Abort + AllocGlobal + Threads + Wait + Sync>(
     rt: &R,
     game: &Arc<Game, Global>,
-    inner: &B,
-    notes: &Notes,
+    inner: B,
+    workers: usize,
 ) -> bool
-    requires { B.game inner.now ≡ arc_value game.now }
+    requires board { B.game inner ≡ arc_value game.now }
+    requires workers { 0 < workers }
 {
-    lift_noted(rt, game, inner, notes);
-    let is_left_settled = is_finished_settled(rt, inner, game);
-    notes.ended_well() && notes.both_came() && is_left_settled
+    let notes = &new_notes(rt, game, workers);
+    let board = Noted { inner, game, notes };
+    let solved = solve(rt, rt.alloc(), game, board, workers, notes).expect(rt, "memory");
+    notes.ended_well(game) && is_least(rt, game, &solved)
 }
 
 // Nothing is noted yet of so many workers.
@@ -381,18 +349,8 @@ fn ends_well<
     requires named { arc_value game.now ≡ K.game }
     requires workers { 0 < workers }
 {
-    let notes = new_notes(rt, game, workers);
-    ends_well_noted::<K, R>(rt, game, &notes)
-}
-
-fn ends_well_noted<
-    K: GameName + Send + Sync,
-    R: Abort + AllocGlobal + Threads + Wait + Clone + Copy + Drop + Send + Sync,
->(rt: &R, game: &Arc<Game, Global>, notes: &Notes) -> bool
-    requires { arc_value game.now ≡ K.game }
-{
-    let inner = board_of_shards::<K, R>(rt, game, 16);
-    ends_well_on(rt, game, &inner, notes) && notes.are_read(game)
+    let board = board_of_shards::<K, R>(rt, game, 16);
+    ends_well_on(rt, game, board, workers)
 }
 
 /// Whether workers over shards under locks leave nothing to lift.
@@ -416,7 +374,7 @@ fn all_end_well<R: Abort + AllocGlobal + Threads + Wait + Clone + Copy + Drop + 
     end_well_over_shards(rt, &game, workers)
 }
 
-/// Whether workers over words, which they lift in the board's own way, leave nothing to lift.
+/// Whether workers over words leave nothing to lift.
 pub(crate) fn end_well_over_words<R: Abort + AllocGlobal + Threads + Wait + Sync>(
     rt: &R,
     game: &Arc<Game, Global>,
@@ -424,9 +382,8 @@ pub(crate) fn end_well_over_words<R: Abort + AllocGlobal + Threads + Wait + Sync
 ) -> bool
     requires { 0 < workers }
 {
-    let notes = new_notes(rt, game, workers);
-    let inner = board_of_words(rt, game, 1);
-    ends_well_on(rt, game, &inner, &notes) && notes.are_own(game)
+    let board = board_of_words(rt, game, 1);
+    ends_well_on(rt, game, board, workers)
 }
 
 // The same of the game of these vertices.

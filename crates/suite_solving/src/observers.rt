@@ -1,11 +1,9 @@
-// What observers are told. The numbers of vertices are counted by hand; a lift is told of after each 4,096th, and one sweep over
-// all vertices lifts each of them once.
+// What observers are told. The numbers of vertices are counted by hand; turns are told of at each 4,096th of a worker, and each vertex has one at least.
 
-use crate::common::{holds, holds_of, opened};
+use crate::common::{holds, holds_of};
 use game::graph::Game;
 use gauge::Gauge;
 use measures::observer::{Observer, Stage};
-use measures::settle::solve_one_from;
 use samples::games::shared_arena_of;
 use samples::texts::ring;
 use std::alloc::Global;
@@ -76,25 +74,6 @@ impl Tally {
     }
 }
 
-fn solve_by_one(rt: &(impl Abort + AllocGlobal), game: &Game, tally: &Tally) {
-    drop(solve_one_from(game, opened(rt, game), tally));
-}
-
-fn tells_of_one(rt: &(impl Abort + AllocGlobal), game: &Game) {
-    let tally = Tally::new();
-    solve_by_one(rt, game, &tally);
-    tally.has_vertices(rt, 17502);
-    let lifts = tally.last_lifts(rt, 16384);
-    // The first telling is of no lift, and then there is one for each 4,096.
-    tally.has_tellings(rt, 1 + lifts / 4096);
-}
-
-#[test]
-fn one_thread_tells_of_lifts(rt: HostRuntime) {
-    let game = game_of_the_ring(&rt);
-    tells_of_one(&rt, &game);
-}
-
 /// Each vertex is a job of some worker once at least, so of 17,502 lifts by two workers one at least tells of 4,096.
 fn tells_of_workers<R: Abort + AllocGlobal + Threads + Wait + Clone + Copy + Drop + Send + Sync>(
     rt: &R,
@@ -107,8 +86,7 @@ fn tells_of_workers<R: Abort + AllocGlobal + Threads + Wait + Clone + Copy + Dro
         shards: 16,
         board,
     };
-    let table = opened(rt, game);
-    holds!(rt; solve_by(rt, rt.alloc(), game, &team, &NoGate, &tally, table).is_ok());
+    holds!(rt; solve_by(rt, rt.alloc(), game, &team, &NoGate, &tally, None).is_ok());
     tally.has_vertices(rt, 17502);
     let lifts = tally.last_lifts(rt, 4096);
     // The first telling is of no lift, and then there is one for each 4,096.

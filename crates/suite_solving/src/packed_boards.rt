@@ -144,25 +144,7 @@ fn a_vertex_is_raised_once(rt: HostRuntime) {
     let game = diamond(&rt);
     let board = board_of_words(&rt, &game, 1);
     rises_to_the_settled(&rt, &board, &game);
-    is_finished(&rt, &board, &game);
-}
-
-// A vertex rises by the first lift in the board's own way, and by no other.
-fn is_lifted_in_its_own_way<B: Board>(rt: &impl Abort, board: &B)
-    requires { 4 < length (B.game board.now).vertices }
-{
-    let Ok(mut seat) = board.seat() else {
-        panic!(rt; "no seat")
-    };
-    holds!(rt; matches!(board.own_lift(&mut seat, 4), Some(true)), "it rises");
-    holds!(rt; board.read(&mut seat, 4).is_top(), "it is read");
-    holds!(rt; matches!(board.own_lift(&mut seat, 4), Some(false)), "it rises once");
-}
-
-#[test]
-fn a_vertex_is_lifted_in_the_board_s_own_way(rt: HostRuntime) {
-    let board = diamond_board(&rt, 1);
-    is_lifted_in_its_own_way(&rt, &board);
+    is_finished(&rt, board, &game);
 }
 
 // One thread lifts a vertex, and the other looks at it until it is top.

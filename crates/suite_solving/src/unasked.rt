@@ -1,5 +1,5 @@
 // What takes no memory. Of two tests that stand side by side, as `x` and `x_and_y`, the first makes something, and the second makes it and uses it:
-// tests/refusals counts how often both request memory, which has to be the same. Where it is `x_with_y` the second may request it 200 times more.
+// tests/refusals counts how often both request memory, which has to be the same. Where it is `x_with_y` the second may request it 199 times more.
 
 ghost use Rattle.std.specs.Prelude.{◌≡◌, ◌<◌, ◌≤◌, length};
 ghost use Rattle.game.specs.Game.{greatest};

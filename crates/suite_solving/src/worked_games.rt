@@ -1,16 +1,24 @@
 // Workers on the games of formulas, over either board, from the opening table on. They are one, two or eight; two of them wait at their first
 // turns until both have come.
 
-use crate::common::holds;
+ghost use Rattle.std.specs.Prelude.{◌≡◌};
+ghost use Rattle.std.specs.Arc.{arc_value};
+
+use crate::common::{board_of_shards, board_of_words, holds};
 use crate::many_workers::{end_well_over_shards, end_well_over_words, is_left};
+use fixtures::meeting::Meeting;
 use fixtures::texts::STAY;
 use game::graph::Game;
+use game::name::GameName;
 use samples::games::shared_arena_of;
 use samples::texts::{RING, ring};
 use std::alloc::Global;
+use std::marker::Brand;
 use std::process::Abort;
 use std::sync::{Arc, Wait};
 use std::thread::Threads;
+use tables::board::Board;
+use workers::solving::solve;
 
 /// Systems of two states, and formulas whose fixpoints depend on each other: two of them, of either kind outermost, and three.
 static NESTED: [(&str, &str); 3] = [
@@ -80,4 +88,36 @@ fn workers_settle_a_long_ring_over_shards(rt: HostRuntime) {
 fn workers_settle_a_long_ring_over_words(rt: HostRuntime) {
     let game = long_game(&rt);
     all_end_well_over_words(&rt, &game)
+}
+
+/// Whether two workers over this board come to their first turns, each before the other may go on.
+fn meet<B: Board + Drop + Sync, R: Abort + AllocGlobal + Threads + Wait + Sync>(
+    rt: &R,
+    game: &Arc<Game, Global>,
+    board: B,
+)
+    requires { B.game board ≡ arc_value game.now }
+{
+    let gate = Meeting::new();
+    holds!(rt; solve(rt, rt.alloc(), game, board, 2, &gate).is_ok());
+    holds!(rt; gate.took_place());
+}
+
+fn meet_over_shards<
+    K: GameName + Send + Sync,
+    R: Abort + AllocGlobal + Threads + Wait + Clone + Copy + Drop + Send + Sync,
+>(rt: &R, game: &Arc<Game, Global>)
+    requires { arc_value game.now ≡ K.game }
+{
+    let board = board_of_shards::<K, R>(rt, game, 16);
+    meet(rt, game, board);
+}
+
+#[test]
+fn two_workers_meet(rt: HostRuntime) {
+    let (system, formula) = NESTED[0];
+    let game = left_game(&rt, system, formula);
+    meet_over_shards::<Brand, HostRuntime>(&rt, &game);
+    let board = board_of_words(&rt, &game, 1);
+    meet(&rt, &game, board);
 }

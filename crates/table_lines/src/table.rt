@@ -19,7 +19,7 @@ use formula::error::{FormulaError, FormulaFault};
 use game::error::BuildError;
 use lts::system::Lts;
 use lts::{Piece, WriteFault, put, put_pieces};
-use measures::observer::{Observer, Silent};
+use measures::observer::{Observer, Silent, Stage};
 use normal::error::NormalError;
 use reports::report::marked;
 use reports::status::error_status;
@@ -195,6 +195,9 @@ fn marks_by<O: Observer + Sync, H: Threads + Wait + Clone + Copy + Drop + Send +
         MatchResult result (λ marks. AreMarks way l f marks.items) (IsBeyond way l f) }
 {
     if plain {
+        observer.sees(Stage::Evaluating {
+            states: system.states(),
+        });
         plain_marks(alloc, system, formula)
     } else {
         game_marks(rt, alloc, system, formula, options, observer)

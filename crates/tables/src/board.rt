@@ -1,15 +1,14 @@
 // Tables of measures that workers share.
 
-ghost use Rattle.std.specs.Prelude.{◌≡◌, ◌<◌, ◌++◌, ◌∷◌, [], List, ◌⊎◌, IfErr, IfNone, IfOk, IfSome, length};
+ghost use Rattle.std.specs.Prelude.{◌≡◌, ◌<◌, ◌++◌, ◌∷◌, [], List, ◌⊎◌, IfErr, IfOk, length};
 ghost use Rattle.game.specs.Game.{Game};
 ghost use Rattle.progress.specs.Progress.{LiesUnder};
 ghost use Rattle.progress.specs.Tables.{LiesBelow};
-ghost use Rattle.tables.specs.Turns.{By, IsPoured, IsRaise, IsTurn};
+ghost use Rattle.tables.specs.Turns.{By, IsPoured, IsRaise};
 ghost use Rattle.tables.specs.declared.access.Access.{Access};
 ghost use Rattle.tables.specs.declared.access.Access.TheVariants as access;
 
 use crate::error::TableError;
-use game::graph::Game;
 use progress::measure::Measure;
 use progress::table::PlainTable;
 
@@ -31,9 +30,6 @@ pub trait Board {
 
     /// It has no seat to give.
     ghost is_full: { Self → Type 0 };
-
-    /// It has no way of its own to lift.
-    ghost is_read: { Self → Type 0 };
 
     /// A seat for one worker.
     ///
@@ -59,20 +55,18 @@ pub trait Board {
         ensures seat { fits self.now seat.new }
         ensures raised { By (did self.now seat.old seat.new) (IsRaise v m.now result) };
 
-    /// Raises a vertex to what it asks for in the board's own way, and says whether it rose. None where the board has no way of its
-    /// own, and then nothing was done: what the successors have is read, and the vertex is raised.
-    fn own_lift(&self, seat: &mut Self::Seat, v: u32) -> Option<bool>
-        requires seat { fits self.now seat.old }
-        requires vertex { v < length (game self.now).vertices }
-        ensures seat { fits self.now seat.new }
-        ensures turn { IfSome result (λ rose. By (did self.now seat.old seat.new) (IsTurn (game self.now) v rose)) }
-        ensures none { IfNone result (is_read self.now) }
-        ensures same { IfNone result (seat.new ≡ seat.old) };
-
     /// A worker's last call.
     fn last(&self, seat: &mut Self::Seat)
         requires { fits self.now seat.old }
         ensures { fits self.now seat.new };
+
+    /// Raises a table to what the board has, when the workers have ended: every vertex is read by one more seat. It takes no memory. Where
+    /// there is no seat, nothing is raised.
+    fn finish(self, table: &mut PlainTable)
+        requires { table.old.game ≡ game self }
+        ensures game { table.new.game ≡ game self }
+        ensures kept { LiesUnder table.old.values table.new.values }
+        ensures poured { is_full self ⊎ ((first last : Self.Seat) × By (did self first last) (IsPoured (game self) table.new.values)) };
 
     /// A seat that nothing was done by is what it was.
     ghost idle: { (b : Self) (s : Self.Seat) → did b s s [] };
@@ -80,35 +74,4 @@ pub trait Board {
     /// What was done by a seat and then what was done by it later is what was done by it.
     ghost chained: { (b : Self) (first middle last : Self.Seat) (before after : List Access)
         → did b first middle before → did b middle last after → did b first last (before ++ after) };
-}
-
-/// Raises a table to what a board has, when the workers have ended: every vertex is read by one more seat. It takes no memory. Where
-/// there is no seat, nothing is raised.
-#[tactic(auto, using(progress::proofs::Rising::under_itself))]
-pub fn finish<B: Board>(board: &B, game: &Game, table: &mut PlainTable)
-    requires same { game.now ≡ B.game board.now }
-    requires table { table.old.game ≡ game.now }
-    ensures game { table.new.game ≡ game.now }
-    ensures kept { LiesUnder table.old.values table.new.values }
-    ensures poured { B.is_full board.now ⊎ ((first last : B.Seat) × By (B.did board.now first last) (IsPoured game.now table.new.values)) }
-{
-    if let Ok(mut seat) = board.seat() {
-        raise_to(board, &mut seat, game, table);
-    }
-}
-
-// Raises a table to what is read of every vertex.
-fn raise_to<B: Board>(board: &B, seat: &mut B::Seat, game: &Game, table: &mut PlainTable)
-    requires same { game.now ≡ B.game board.now }
-    requires table { table.old.game ≡ game.now }
-    requires seat { B.fits board.now seat.old }
-    ensures seat { B.fits board.now seat.new }
-    ensures game { table.new.game ≡ game.now }
-    ensures kept { LiesUnder table.old.values table.new.values }
-    ensures poured { By (B.did board.now seat.old seat.new) (IsPoured game.now table.new.values) }
-{
-    table.known();
-    for v in 0..game.vertices() {
-        table.raise(v, &board.read(seat, v));
-    }
 }

@@ -10,7 +10,7 @@ use crate::shard::Shard;
 use game::graph::Game;
 use game::name::GameName;
 use progress::measure::Measure;
-use progress::table::opening_value;
+use progress::table::{PlainTable, opening_value};
 use std::alloc::{AllocError, Global};
 use std::sync::{Arc, Mutex, Wait};
 
@@ -76,8 +76,6 @@ impl<K: GameName, R: Wait + Drop> Board for LockedBoard<K, R> {
 
     ghost is_full = { λ b. ⊥ };
 
-    ghost is_read = { λ b. Unit {0} };
-
     ghost idle = { λ b s. tt };
 
     ghost chained = { λ b first middle last before after one two. tt };
@@ -106,9 +104,12 @@ impl<K: GameName, R: Wait + Drop> Board for LockedBoard<K, R> {
         shard.has_at(v, place) && shard.raise_at(v, place, m)
     }
 
-    fn own_lift(&self, _seat: &mut (), _v: u32) -> Option<bool> {
-        None
-    }
-
     fn last(&self, _seat: &mut ()) {}
+
+    fn finish(self, table: &mut PlainTable) {
+        for v in 0..self.game.vertices() {
+            table.raise(v, &self.read(&mut (), v));
+        }
+        table.known();
+    }
 }

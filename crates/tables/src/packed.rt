@@ -9,7 +9,7 @@ ghost use Rattle.progress.specs.Progress.{IsLeastTable, IsOverLift, LiesUnder, g
 ghost use Rattle.progress.specs.Tables.{LiesBelow};
 ghost use Rattle.progress.specs.declared.rank.TheConstants.{RANK_LIMIT};
 ghost use Rattle.tables.specs.Packed.{IsOpeningRank, IsWord};
-ghost use Rattle.tables.specs.Turns.{Asks, By, IsRaise, IsTurn};
+ghost use Rattle.tables.specs.Turns.{Asks, By, IsPoured, IsRaise, IsTurn};
 ghost use Rattle.tables.specs.Weights.{AreWeights};
 
 use crate::access::Access;
@@ -345,6 +345,22 @@ impl PackedBoard {
                 return;
             }
             sum = next;
+        }
+    }
+
+    /// Raises a table to what is read of every vertex.
+    #[tactic(auto, using(progress::proofs::Rising::under_itself))]
+    pub(crate) fn read_into(&self, seat: &mut PackedSeat, table: &mut PlainTable)
+        requires table { table.old.game ≡ board_game self.now }
+        requires seat { IsSeatOf self.now seat.old }
+        ensures seat { IsSeatOf self.now seat.new }
+        ensures game { table.new.game ≡ board_game self.now }
+        ensures kept { LiesUnder table.old.values table.new.values }
+        ensures poured { By (Did seat.old seat.new) (IsPoured (board_game self.now) table.new.values) }
+    {
+        table.known();
+        for v in 0..self.game.vertices() {
+            table.raise(v, &self.load(seat, v));
         }
     }
 

@@ -11,6 +11,7 @@ use crate::board::Board;
 use crate::error::TableError;
 use crate::packed::{PackedBoard, PackedSeat};
 use progress::measure::Measure;
+use progress::table::PlainTable;
 
 impl Board for PackedBoard {
     type Seat = PackedSeat;
@@ -22,8 +23,6 @@ impl Board for PackedBoard {
     ghost did = { λ b. Did };
 
     ghost is_full = { λ b. length (board_game b).vertices ≡ 0 };
-
-    ghost is_read = { λ b. ⊥ };
 
     ghost idle = { λ b s. sym (append-nil (done s)) };
 
@@ -48,15 +47,18 @@ impl Board for PackedBoard {
         self.lift_to(seat, v, m)
     }
 
-    fn own_lift(&self, seat: &mut PackedSeat, v: u32) -> Option<bool> {
-        Some(self.lift(seat, v))
-    }
-
     fn last(&self, seat: &mut PackedSeat)
         requires { IsSeatOf self.now seat.old }
         ensures seat { IsSeatOf self.now seat.new }
         ensures least { IsLeastTable (board_game self.now) (seen seat.new) }
     {
         self.settle_seat(seat);
+    }
+
+    fn finish(self, table: &mut PlainTable) {
+        let Some(mut seat) = self.new_seat() else {
+            return;
+        };
+        self.read_into(&mut seat, table);
     }
 }

@@ -1,5 +1,5 @@
 -- From the winners at the root node to the marks of a check.
-use Rattle.std.proofs.Common.{◌≡◌, ◌≢◌, ◌+◌, ◌*◌, ◌≤◌, ℕ, Bool, List, length, None, Option, Some, Vec, Global, refl, sym, subst}
+use Rattle.std.proofs.Common.{◌≡◌, ◌+◌, ◌*◌, ◌≤◌, ℕ, Bool, List, length, None, Option, Some, Vec, Global, refl, sym, subst}
 use Rattle.std.specs.Prelude.{IfSome}
 use Rattle.calculus.specs.Admitted.{IsAdmitted}
 use Rattle.calculus.specs.Meaning.{MarksOf}
@@ -12,10 +12,10 @@ use Rattle.forms.specs.Rules.{nodes_with}
 use Rattle.forms.specs.Tree.{node_count}
 use Rattle.game.specs.declared.limits.TheConstants.{MOST_VERTICES}
 use Rattle.game.specs.Arena.{arena, place}
+use Rattle.game.specs.Game.{Game}
 use Rattle.game.specs.Wins.{Wins}
 use Rattle.laws.specs.Laws.{ChosenIsAdmissible, EvenWinsFormula}
 use Rattle.workers.specs.declared.team.BoardKind.{BoardKind}
-use Rattle.workers.specs.declared.team.BoardKind.TheVariants.{Auto, Locked, Packed}
 use Rattle.requests.specs.Check.{AreMarks, ByGame, game_by_rule}
 use Rattle.requests.specs.Roots.{WinsRoot}
 use Rattle.requests.specs.Solver.{FitsBoard}
@@ -23,12 +23,6 @@ use Rattle.verdicts.proofs.Roots.{roots_mean}
 
 some_same : (a b : ℕ) → Some a ≡ Some b → a ≡ b
 some_same a b e = cc
-
--- each other board can be had
-fits : (board : BoardKind) (rule : Priorities) (l : System) (f : Formula) → board ≢ Packed → FitsBoard (Some board) (game_by_rule rule l f)
-fits Auto rule l f n = λ h. h
-fits Locked rule l f n = λ h. h
-fits Packed rule l f n = absurd (n refl)
 
 won : (l : System) (ns : List Node) (marks : List Bool) → MarksOf l.states marks (λ s. Wins (arena l ns) (place (length ns) s 0))
     → MarksOf l.states marks (WinsRoot (arena l ns))
@@ -41,26 +35,26 @@ won l ns marks m = record {
 }
 
 ranked : (rule : Priorities) (board : BoardKind) (l : System) (f : Formula) (marks : List Bool) → ChosenIsAdmissible → EvenWinsFormula
-    → IsSystem l → IsAdmitted f → board ≢ Packed → node_count f ≤ MOST_NODES → greatest_node_priority (nodes_with rule f) ≤ GREATEST_PRIORITY
+    → IsSystem l → IsAdmitted f → ((g : Game) → FitsBoard (Some board) g) → node_count f ≤ MOST_NODES → greatest_node_priority (nodes_with rule f) ≤ GREATEST_PRIORITY
     → 2 + l.states * length (nodes_with rule f) ≤ MOST_VERTICES
     → MarksOf l.states marks (λ s. Wins (arena l (nodes_with rule f)) (place (length (nodes_with rule f)) s 0))
     → AreMarks (ByGame rule (Some board)) l f marks
-ranked rule board l f marks chosen wins is admitted n few low vertices m =
+ranked rule board l f marks chosen wins is admitted fits few low vertices m =
     let w = won l (nodes_with rule f) marks m in
     record {
-      within = (record { form = record { nodes = few; priorities = low }; vertices = vertices }, fits board rule l f n);
+      within = (record { form = record { nodes = few; priorities = low }; vertices = vertices }, fits (game_by_rule rule l f));
       exact = roots_mean l f (nodes_with rule f) marks wins is admitted (chosen rule f admitted) w;
       won = w;
     }
 
 -- What is known of the winners in the arena of these nodes, which are those of the rule.
 pub ranked_by : (rule : Priorities) (board : BoardKind) (l : System) (f : Formula) (ns : List Node) (marks : Option (Vec Bool Global)) → ChosenIsAdmissible
-    → EvenWinsFormula → IsSystem l → IsAdmitted f → (board ≡ Packed → ⊥) → node_count f ≤ MOST_NODES → greatest_node_priority (nodes_with rule f) ≤ GREATEST_PRIORITY
+    → EvenWinsFormula → IsSystem l → IsAdmitted f → ((g : Game) → FitsBoard (Some board) g) → node_count f ≤ MOST_NODES → greatest_node_priority (nodes_with rule f) ≤ GREATEST_PRIORITY
     → ns ≡ nodes_with rule f → IfSome marks (λ m. 2 + l.states * length ns ≤ MOST_VERTICES)
     → IfSome marks (λ m. MarksOf l.states m.items (λ s. Wins (arena l ns) (place (length ns) s 0)))
     → IfSome marks (λ m. AreMarks (ByGame rule (Some board)) l f m.items)
-ranked_by rule board l f ns None chosen wins is admitted n few low same vertices m = tt
-ranked_by rule board l f ns (Some marks) chosen wins is admitted n few low same vertices m =
-    ranked rule board l f marks.items chosen wins is admitted n few low
+ranked_by rule board l f ns None chosen wins is admitted fits few low same vertices m = tt
+ranked_by rule board l f ns (Some marks) chosen wins is admitted fits few low same vertices m =
+    ranked rule board l f marks.items chosen wins is admitted fits few low
     (subst (λ xs. 2 + l.states * length xs ≤ MOST_VERTICES) same vertices)
     (subst (λ xs. MarksOf l.states marks.items (λ s. Wins (arena l xs) (place (length xs) s 0))) same m)

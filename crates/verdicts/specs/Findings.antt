@@ -15,8 +15,6 @@ use Rattle.evidence.specs.declared.error.EvidenceError.TheVariants as evidence
 use Rattle.verdicts.specs.declared.lifting.SolvedGame.{SolvedGame}
 use Rattle.verdicts.specs.declared.lifting.Winners.{Winners}
 use Rattle.verdicts.specs.declared.lifting.Winners.TheVariants.{Table, Marks as ByMarks}
-use Rattle.verdicts.specs.declared.lifting.Solution.{Solution}
-use Rattle.verdicts.specs.declared.lifting.Solution.TheVariants.{Table as HasTable, Marks as HasMarks}
 use Rattle.verdicts.specs.declared.findings.Findings.{Findings}
 use Rattle.verdicts.specs.declared.findings.Posed.{Posed}
 use Rattle.certify.specs.declared.pair.EvidencePair.{EvidencePair}
@@ -33,11 +31,6 @@ pub record IsSolvedGame (l : System) (f : Formula) (s : SolvedGame) : Type 0 whe
 abbrev pub AreWinnersOf : Game → Winners → Type 0
 AreWinnersOf g (Table settled) = settled.now.game ≡ g
 AreWinnersOf g (ByMarks marks) = MarksOf (length g.vertices) marks.now (Wins g)
-
--- The same of what says so.
-abbrev pub IsSolutionOf : Game → Solution → Type 0
-IsSolutionOf g (HasTable settled) = settled.game ≡ g
-IsSolutionOf g (HasMarks marks) = MarksOf (length g.vertices) marks.items (Wins g)
 
 -- The game that is to be solved is that of the texts.
 abbrev pub ArePosed : Posed → Type 0

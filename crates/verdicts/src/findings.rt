@@ -16,7 +16,7 @@ ghost use Rattle.requests.specs.Writers.{AreKept, Lent};
 use crate::guessing::guessed_table;
 use crate::lifting::{SolvedGame, Winners, state_marks};
 use arena_search::measures::Side;
-use certify::raised::raised_table;
+use certify::decide::certified_winners;
 use evidence::error::EvidenceError;
 use evidence::evidence::Evidence;
 use evidence::make::{odd_evidence_from, odd_evidence_of};
@@ -29,7 +29,7 @@ use measures::table::Settled;
 use requests::arena::arena_of;
 use requests::error::MuError;
 use requests::request::Options;
-use requests::solver::{lift_seen, require_board, solve_seen};
+use requests::solver::solve_seen;
 use requests::texts::{Texts, read_both};
 use requests::watch::Watcher;
 use std::alloc::Global;
@@ -38,7 +38,6 @@ use std::sync::{Arc, Wait};
 use std::thread::Threads;
 use text::Memory;
 use text::source::Source;
-use workers::error::SolveError;
 use workers::gate::{Gate, NoGate};
 use workers::team::BoardKind;
 
@@ -119,8 +118,8 @@ pub fn find_with<
     }
 }
 
-/// Finds what `find_with` does, of texts that were read, and tells a watcher what is being built, searched and lifted. Where a guess of the whole
-/// table is good, no worker lifts, however many there are.
+/// Finds what `find_with` does, of texts that were read, and tells a watcher what is being built, searched and lifted. Where no board is named and a guess of
+/// the whole table is good, no worker lifts, however many there are.
 ///
 /// # Errors
 /// Those of the normal form, of the game, of the board and of the workers' table; U4.
@@ -258,13 +257,13 @@ fn find_by_workers<T: Gate + Sync, H: Threads + Wait + Clone + Copy + Drop + Sen
     ensures texts { IfOk result (λ found. found.texts.value ≡ posed.texts.value) }
     ensures refusal { IfErr result (IsUnsolved (Some options.now.board) (arc_value posed.game)) }
 {
-    match solve_seen(rt, alloc, &posed.game, options, gate, &Silent) {
+    match solve_seen(rt, alloc, &posed.game, options, gate, &Silent, None) {
         Ok(settled) => find_solved(alloc, posed, Some(options.board), settled),
         Err(error) => Err(error),
     }
 }
 
-/// What is found out of these texts: by a guess, where it is good, and else by workers.
+/// What is found out of these texts, over the board that the options ask for.
 fn find_posed<O: Observer + Sync, H: Threads + Wait + Clone + Copy + Drop + Send + Sync>(
     rt: &H,
     alloc: Global,
@@ -284,7 +283,8 @@ fn find_posed<O: Observer + Sync, H: Threads + Wait + Clone + Copy + Drop + Send
     }
 }
 
-/// The least progress table: by a guess, where it is good. Else workers lift it from a table that has top where certified evidence says that Odd wins.
+/// The least progress table. Over a board that is named workers lift it from the opening table on. Else it is guessed; where no guess is good, workers lift it
+/// from a table that has top where certified evidence says that Odd wins.
 fn settle_posed<O: Observer + Sync, H: Threads + Wait + Clone + Copy + Drop + Send + Sync>(
     rt: &H,
     alloc: Global,
@@ -297,18 +297,18 @@ fn settle_posed<O: Observer + Sync, H: Threads + Wait + Clone + Copy + Drop + Se
     ensures refusal { IfErr result (IsUnsolved (Some options.now.board) (arc_value posed.now.game)) }
 {
     let game = &posed.game;
+    if options.board.is_named() {
+        return solve_seen(rt, alloc, game, options, &NoGate, observer, None);
+    }
     observer.sees(Stage::Searching {
         vertices: game.vertices(),
     });
-    require_board(game, options.board)?;
     if let Some(settled) = guessed_table(alloc, &posed.texts, posed.priorities, Side::Even, game) {
         return Ok(settled);
     }
     let workers = options.workers as usize;
-    match raised_table(rt, alloc, game, workers, observer.gauge()) {
-        Ok(table) => lift_seen(rt, alloc, game, options, &NoGate, observer, table),
-        Err(Memory) => Err(MuError::Solve(SolveError::Memory)),
-    }
+    let won = certified_winners(rt, alloc, game, workers, observer.gauge());
+    solve_seen(rt, alloc, game, options, &NoGate, observer, won.as_deref())
 }
 
 /// What is found out where the game is solved.
@@ -347,7 +347,7 @@ fn find_solved(
     })
 }
 
-/// The evidence of all that Odd wins.
+/// The evidence of all that Odd wins: by a guess, where no board is named and the guess is good, and else by lifting the dual game.
 ///
 /// # Errors
 /// E5.
@@ -361,6 +361,9 @@ pub fn odd_evidence_found(alloc: Global, found: &Findings) -> Result<Evidence, E
 {
     let solution = &found.solution;
     let game = &solution.game;
+    if solution.is_named() {
+        return odd_evidence_from(alloc, game, &solution.settled);
+    }
     let Ok(turned) = dual(alloc, game) else {
         return Err(EvidenceError::Memory);
     };

@@ -10,7 +10,7 @@ ghost use Rattle.requests.specs.Check.{ByGame, AreMarks, IsArenaOf};
 ghost use Rattle.requests.specs.Roots.{HasRoots, WinsRoot};
 ghost use Rattle.requests.specs.Solver.{FitsBoard};
 ghost use Rattle.workers.specs.declared.team.BoardKind.{BoardKind};
-ghost use Rattle.verdicts.specs.Findings.{AreWinnersOf, IsSolutionOf};
+ghost use Rattle.verdicts.specs.Findings.{AreWinnersOf};
 
 use calculus::closed::Closed;
 use forms::priorities::Priorities;
@@ -33,6 +33,13 @@ pub struct SolvedGame {
     pub settled: Settled,
 }
 
+impl SolvedGame {
+    /// Whether workers lifted it over a board that was named.
+    pub fn is_named(&self) -> bool {
+        self.board.is_some_and(|board| board.is_named())
+    }
+}
+
 /// Who wins the vertices of a game.
 #[derive(Clone, Copy)]
 pub enum Winners<'a> {
@@ -40,27 +47,6 @@ pub enum Winners<'a> {
     Table(&'a Settled),
     /// By a mark for each vertex, true where Even wins it.
     Marks(&'a [bool]),
-}
-
-/// Who wins a game, as it was found out.
-#[derive(Drop)]
-pub enum Solution {
-    /// Its least progress table.
-    Table(Settled),
-    /// A mark for each vertex, true where Even wins it.
-    Marks(Vec<bool>),
-}
-
-impl Solution {
-    /// The winners, lent.
-    pub fn winners(&self) -> Winners<'_>
-        ensures { (g : Game) → IsSolutionOf g self.now → AreWinnersOf g result }
-    {
-        match self {
-            Solution::Table(settled) => Winners::Table(settled),
-            Solution::Marks(marks) => Winners::Marks(marks),
-        }
-    }
 }
 
 /// Whether Even wins a vertex.

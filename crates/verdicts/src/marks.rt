@@ -4,13 +4,10 @@ ghost use Rattle.std.specs.Prelude.{IfOk, IfErr, MatchResult, Some};
 ghost use Rattle.std.specs.Arc.{arc_value};
 ghost use Rattle.calculus.specs.Closed.{closed_formula};
 ghost use Rattle.requests.specs.Check.{AreMarks, BySets, ByGame, IsArenaOf, IsBeyond};
-ghost use Rattle.requests.specs.Solver.{FitsBoard, IsUnsolved};
-ghost use Rattle.verdicts.specs.Findings.{IsSolutionOf};
 
-use crate::lifting::{Solution, state_marks};
+use crate::lifting::{Winners, state_marks};
 use crate::ranked::ranked_marks;
 use calculus::closed::Closed;
-use certify::decide::certified_winners;
 use game::graph::Game;
 use lts::Memory;
 use lts::system::Lts;
@@ -19,11 +16,10 @@ use measures::observer::{Observer, Stage};
 use requests::arena::arena_of;
 use requests::error::MuError;
 use requests::request::Options;
-use requests::solver::{require_board, solve_seen};
+use requests::solver::winners_by;
 use std::alloc::Global;
 use std::sync::{Arc, Wait};
 use std::thread::Threads;
-use workers::gate::NoGate;
 
 /// A mark for each state, true where it satisfies the formula, by sets of states.
 ///
@@ -94,8 +90,7 @@ fn stored_marks<O: Observer + Sync, H: Threads + Wait + Clone + Copy + Drop + Se
     }
 }
 
-/// A mark for each state, true where it satisfies the formula, in the game of both: by evidence of both players that is guessed and
-/// found good, where there is some; else by lifting.
+/// A mark for each state, true where it satisfies the formula, in the game of both.
 fn marks_in<O: Observer + Sync, H: Threads + Wait + Clone + Copy + Drop + Send + Sync>(
     rt: &H,
     alloc: Global,
@@ -109,37 +104,11 @@ fn marks_in<O: Observer + Sync, H: Threads + Wait + Clone + Copy + Drop + Send +
     ensures { let l = system.now.system in let f = closed_formula formula.now in let way = ByGame options.now.priorities (Some options.now.board) in
         MatchResult result (λ marks. AreMarks way l f marks.items) (IsBeyond way l f) }
 {
-    observer.sees(Stage::Searching {
-        vertices: game.vertices(),
-    });
-    match solution_of(rt, alloc, game, options, observer) {
-        Ok(solution) => {
-            let priorities = options.priorities;
-            state_marks(alloc, system, formula, priorities, game, solution.winners())
+    match winners_by(rt, alloc, game, options, observer) {
+        Ok(won) => {
+            let winners = Winners::Marks(&won);
+            state_marks(alloc, system, formula, options.priorities, game, winners)
         }
-        Err(error) => Err(error),
-    }
-}
-
-/// Who wins the game of both.
-fn solution_of<O: Observer + Sync, H: Threads + Wait + Clone + Copy + Drop + Send + Sync>(
-    rt: &H,
-    alloc: Global,
-    game: &Arc<Game, Global>,
-    options: &Options,
-    observer: &O,
-) -> Result<Solution, MuError>
-    ensures solution { IfOk result (IsSolutionOf (arc_value game.now)) }
-    ensures board { IfOk result (λ _. FitsBoard (Some options.now.board) (arc_value game.now)) }
-    ensures refusal { IfErr result (IsUnsolved (Some options.now.board) (arc_value game.now)) }
-{
-    require_board(game, options.board)?;
-    let workers = options.workers as usize;
-    if let Some(marks) = certified_winners(rt, alloc, game, workers, observer.gauge()) {
-        return Ok(Solution::Marks(marks));
-    }
-    match solve_seen(rt, alloc, game, options, &NoGate, observer) {
-        Ok(settled) => Ok(Solution::Table(settled)),
         Err(error) => Err(error),
     }
 }

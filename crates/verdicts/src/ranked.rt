@@ -22,7 +22,6 @@ use rankings::winners::root_winners;
 use requests::request::Options;
 use std::alloc::Global;
 use std::thread::Threads;
-use workers::team::BoardKind;
 
 // The ranking that is searched for, if there is one.
 fn found_sheet(alloc: Global, system: &Lts, form: &Normal) -> Option<Sheet> {
@@ -48,15 +47,8 @@ fn ranked_winners<H: Threads + Sync>(
     }
 }
 
-fn is_packed(board: BoardKind) -> bool
-    ensures { IsTrue result ↔ (board ≡ BoardKind.Packed) }
-{
-    board == BoardKind::Packed
-}
-
 /// A mark for each state, true where it satisfies the formula: by a ranking of the game of both that is searched for and found good. There is none where it
-/// isn't good, where a limit is passed, or for want of memory; nor where the packed board is asked for, since what that can hold is known of a game
-/// that is stored. As many threads work as there are workers, and no more than there are processors. An observer is told that winners are searched for.
+/// isn't good, where a limit is passed, or for want of memory; nor where a board is named, over which workers are to lift. As many threads work as there are workers, and no more than there are processors. An observer is told that winners are searched for.
 pub(crate) fn ranked_marks<O: Observer, H: Threads + Sync>(
     rt: &H,
     alloc: Global,
@@ -71,7 +63,7 @@ pub(crate) fn ranked_marks<O: Observer, H: Threads + Sync>(
     chosen_is_admissible();
     even_wins_where_meant();
     let states = system.states();
-    if is_packed(options.board) {
+    if options.board.is_named() {
         return None;
     }
     match normal_with(alloc, formula, options.priorities) {

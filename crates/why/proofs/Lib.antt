@@ -1,11 +1,4 @@
-pub mod Told
-pub mod Walking
-pub mod Arrows
-pub mod Visits
-pub mod Numbered
-pub mod Connected
-pub mod Rising
-pub mod SameNames
-pub mod Mentioned
-pub mod Lacking
-pub mod Staked
+mod Heads
+mod Lines
+mod Walking
+mod Ways

@@ -1,472 +1,448 @@
--- A walk goes on until nothing waits.
-use Rattle.std.proofs.Common.{◌≡◌, ℕ, suc, ◌+◌, ◌-◌, ◌<◌, ◌⊎◌, Bool, true, false, not, List, [], ◌∷◌, ◌++◌, length, replicate, refl, sym, ap, subst}
-use Rattle.std.proofs.Common.{◌∙◌, inl, inr, arith, IsTrue, Contains, Option, Some, None, true≢false, length-append}
-use Rattle.std.specs.Prelude.{MatchBool, slice_set}
-use Rattle.std.proofs.lemmas.Bool.{cases_lt}
+-- A walk goes on until nothing is left to be told.
+use Rattle.std.proofs.Common.{◌≡◌, ◌≢◌, ℕ, zero, suc, ◌+◌, ◌*◌, ◌≤◌, ◌<◌, ◌⊎◌, Bool, true, false, List, [], ◌∷◌, ◌++◌, length, refl, sym, ap, subst, ◌∙◌, inl, inr, arith}
+use Rattle.std.proofs.Common.{IsTrue, Contains, Option, Some, None, Result, Ok, Err, append-nil, length-append, true≢false}
+use Rattle.text.specs.declared.error.Memory.{Memory}
+use Rattle.std.specs.Prelude.{IfOk, slice_index_or, slice_set}
+use Rattle.std.specs.Option.{is_some, option_to_list}
 use Rattle.std.proofs.Math.ListN.{length-set}
-use Rattle.std.proofs.lemmas.List.{length-replicate}
-use Rattle.systems.specs.System.{System}
-use Rattle.systems.specs.Path.{IsPath}
-use Rattle.witness.specs.Walk.{is_marked, unmarked_vertices}
-use Rattle.witness.proofs.Setting.{all_unmarked, no_mark, none_fewer, none_unmarked, one_fewer, set_adds, set_keeps, set_there}
-use Rattle.why.specs.Telling.{EachFollows, HasNoStep, IsConnected, IsComeTo, IsTelling, LeadsTo, arrow_at, steps, stops}
-use Rattle.why.specs.Walk.{HasLetBlockWait, HasLetWait, HasToldStep, HasToldMore, IsUsedUp, IsWalk, Waits}
-use Rattle.why.specs.declared.line.Line.TheVariants.{Step, Stop}
+use Rattle.std.proofs.lemmas.Bool.{cases_lt}
+use Rattle.std.proofs.lemmas.Option.{slice_get_within}
+use Rattle.std.proofs.lemmas.List.Elements.{Contains-push_cases, Contains-append_left, Contains-push}
+use Rattle.game.specs.Game.{Game}
+use Rattle.progress.proofs.Lists.{contains_cases, contains_first, contains_later, contains_none}
+use Rattle.evidence.specs.Evidence.{Entry, Evidence, IsEvidence, IsGood, has}
+use Rattle.evidence.specs.Witness.{Goes}
+use Rattle.evidence.specs.declared.verdict.Fault.TheVariants.{Leaves}
+use Rattle.witness.specs.Walk.{AreGoals, is_marked, unmarked_vertices}
+use Rattle.witness.proofs.Setting.{one_fewer, set_adds}
+use Rattle.why.specs.Telling.{Comes, GoesOnlyTo, IsOfKind, IsTelling, IsVisit, LeadsOn, WasTold, deeper, goes_on, way_to}
+use Rattle.why.specs.Walk.{HasAdded, HasLetWait, HasTold, HasTwo, IsWalk, IsWalkBy, count_of, left, way_on}
+use Rattle.why.specs.declared.visit.Kind.{Kind}
+use Rattle.why.specs.declared.visit.Kind.TheVariants.{On, Branch, Sink, Back, Told}
+use Rattle.why.specs.declared.visit.Visit.{Visit}
+use Rattle.why.specs.declared.visit.Way.{Way}
 use Rattle.why.specs.declared.walk.Walk.{Walk}
-use Rattle.why.specs.declared.walk.Way.{Way}
-use Rattle.why.proofs.Told.{each_more, reached_before, reached_now, reached_stays, steps_of_step, steps_of_stop, still_reached, stop_before, stop_now}
-use Rattle.why.proofs.Told.{stop_stays, stops_of_step, told_before, told_now, told_stays, was_reached}
 
-yes_or_no : (b : Bool) → (b ≡ true) ⊎ (b ≡ false)
-yes_or_no true = inl refl
-yes_or_no false = inr refl
+-- ------------------------------------------------------------------ one visit more
 
-some_same : (a b : ℕ) → Some a ≡ Some b → a ≡ b
-some_same a b e = cc
+pub at_more : (vs : List Visit) (x : Visit) (i : ℕ) (v : Visit) → IsVisit vs i v → IsVisit (vs ++ x ∷ []) i v
+at_more [] x i v h = absurd cc
+at_more (w ∷ vs) x zero v h = h
+at_more (w ∷ vs) x (suc i) v h = at_more vs x i v h
 
-none_some : {P : Type 0} (a : ℕ) → None ≡ Some a → P
-none_some a e = absurd cc
+pub at_last : (vs : List Visit) (x : Visit) → IsVisit (vs ++ x ∷ []) (length vs) x
+at_last [] x = refl
+at_last (w ∷ vs) x = at_last vs x
 
--- ------------------------------------------------------------------ what waits
+pub at_cases : (vs : List Visit) (x : Visit) (i : ℕ) (v : Visit) → IsVisit (vs ++ x ∷ []) i v → IsVisit vs i v ⊎ ((i ≡ length vs) × (x ≡ v))
+at_cases [] x zero v h = inr (refl, cc)
+at_cases [] x (suc i) v h = absurd cc
+at_cases (w ∷ vs) x zero v h = inl h
+at_cases (w ∷ vs) x (suc i) v h = elim (at_cases vs x i v h) [ inl k ↦ inl k | inr e ↦ inr (ap suc e.0, e.1) ]
 
-pub waits_left : (ways : List Way) (way : Way) (n : ℕ) → Waits ways n → Waits (ways ++ way ∷ []) n
-waits_left [] way n h = absurd h
-waits_left (w ∷ ways) way n (inl e) = inl e
-waits_left (w ∷ ways) way n (inr h) = inr (waits_left ways way n h)
+pub at_below : (vs : List Visit) (i : ℕ) (v : Visit) → IsVisit vs i v → i < length vs
+at_below vs i v h = slice_get_within vs i v h
 
-pub waits_last : (ways : List Way) (way : Way) → Waits (ways ++ way ∷ []) way.number
-waits_last [] way = inl refl
-waits_last (w ∷ ways) way = inr (waits_last ways way)
-
-pub waits_cases : (ways : List Way) (way : Way) (n : ℕ) → Waits (ways ++ way ∷ []) n → Waits ways n ⊎ (way.number ≡ n)
-waits_cases [] way n (inl e) = inr e
-waits_cases [] way n (inr h) = absurd h
-waits_cases (w ∷ ways) way n (inl e) = inl (inl e)
-waits_cases (w ∷ ways) way n (inr h) = elim (waits_cases ways way n h) [ inl k ↦ inl (inr k) | inr e ↦ inr e ]
-
--- one more of a block waits
-pub block_begins : (ways : List Way) (end : ℕ) → HasLetBlockWait ways ways end 0
-block_begins ways end = record {
-  stays = λ m h. h;
-  all = λ m low high. absurd (omega arith);
-  only = λ m h. inl h;
-  long = omega arith;
+-- a way that waits leads on to a later visit, too
+pub leads_later : (g : Game) (e : Evidence) (i k l : ℕ) (v : Visit) (way : Way) → k ≤ l → v.kind ≡ Branch → LeadsOn g e i v k way → LeadsOn g e i v l way
+leads_later g e i k l v way le is h = record {
+  later = (let lt = h.later in omega arith);
+  next = λ on. absurd cc;
+  goes_on = h.goes_on;
+  from = h.from;
+  goes = h.goes;
+  blanks = h.blanks;
 }
 
-pub block_more : (old ways new : List Way) (way : Way) (end k : ℕ) → HasLetBlockWait old ways end k → new ≡ ways ++ way ∷ [] → way.number ≡ end - 1 - k
-    → k < end
-    → HasLetBlockWait old new end (k + 1)
-block_more old ways new way end k h is number below = record {
-  stays = λ m w. subst (λ ws. Waits ws m) (sym is) (waits_left ways way m (h.stays m w));
-  all = λ m low high. subst (λ ws. Waits ws m) (sym is) (elim (cases_lt (m + k) end) [
-    | inl less ↦ (let e : way.number ≡ m = omega (arith, number, low, less) in subst (λ z. Waits (ways ++ way ∷ []) z) e (waits_last ways way))
-    | inr more ↦ waits_left ways way m (h.all m more high)
-  ]);
-  only = λ m w. (elim (waits_cases ways way m (subst (λ ws. Waits ws m) is w)) [
-    | inl old_one ↦ elim (h.only m old_one) [
-      | inl older ↦ inl older
-      | inr b ↦ inr ((let low = b.0 in omega (arith, low)), b.1)
-    ]
-    | inr e ↦ inr (omega (arith, e, number, below), omega (arith, e, number, below))
-  ]);
-  long = (let l = h.long in let one = length-append ways (way ∷ []) in ap length is ∙ omega (arith, l, one));
+pub comes_more : (g : Game) (e : Evidence) (root k : ℕ) (vs : List Visit) (x : Visit) (way : Way) → Comes g e root vs k way → Comes g e root (vs ++ x ∷ []) k way
+comes_more g e root k vs x way (inl h) = inl h
+comes_more g e root k vs x way (inr h) = inr (h.0, h.1, at_more vs x h.0 h.1 h.2, h.3)
+
+pub kind_more : (g : Game) (e : Evidence) (k u : ℕ) (vs : List Visit) (x : Visit) (kind : Kind) → IsOfKind g e vs k u kind → IsOfKind g e (vs ++ x ∷ []) k u kind
+kind_more g e k u vs x On h = h
+kind_more g e k u vs x Branch h = h
+kind_more g e k u vs x Sink h = h
+kind_more g e k u vs x (Back i) h = record {
+  visit = h.visit;
+  is = at_more vs x i h.visit h.is;
+  vertex = h.vertex;
+  earlier = h.earlier;
+  run = λ j low high. (let r = h.run j low high in (r.0, at_more vs x j r.0 r.1, r.2));
+}
+kind_more g e k u vs x Told h = record {
+  number = h.number;
+  visit = h.visit;
+  is = at_more vs x h.number h.visit h.is;
+  vertex = h.vertex;
+  goes_on = h.goes_on;
+  end = h.end;
+  last = h.last;
+  is_last = at_more vs x h.end h.last h.is_last;
+  order = h.order;
+  ended = h.ended;
 }
 
--- what waited last is told, or no more may be
-pub walk_drops : (l : System) (most : ℕ) (w : Walk) (waiting : List Way) (way : Way) (o : Option ℕ) → IsWalk l most w (waiting ++ way ∷ []) o
-    → Contains (steps w.lines.items) way.number ⊎ IsUsedUp l most w.count
-    → IsWalk l most w waiting o
-walk_drops l most w waiting way o is done = record {
-  states = is.states;
-  arrows = is.arrows;
-  each = is.each;
-  reached = is.reached;
-  told = is.told;
-  count = is.count;
-  rest = is.rest;
-  few = is.few;
-  onward = λ n lt from. elim (is.onward n lt from) [
-    | inl told ↦ inl told
-    | inr (inl waits) ↦ elim (waits_cases waiting way n waits) [
-      | inl k ↦ inr (inl k)
-      | inr e ↦ elim done [ inl told ↦ inl (subst (λ m. Contains (steps w.lines.items) m) e told) | inr full ↦ inr (inr (inl full)) ]
-    ]
-    | inr (inr more) ↦ inr (inr more)
-  ];
-  ends = is.ends;
-  stopped = is.stopped;
-  opened = is.opened;
-  waits = λ n h. is.waits n (waits_left waiting way n h);
-}
+-- ------------------------------------------------------------------ the evidence's vertices
 
--- ------------------------------------------------------------------ a step is told
+-- the play stays in the evidence
+pub goes_has : (g : Game) (e : Evidence) (u t : ℕ) → IsGood g e → Goes g e u t → IsTrue (has e t)
+goes_has g e u t good go = good u Leaves go.0 go.1 go.2 go.3 t go.4
 
-module _ (l : System) (most : ℕ) (old new : Walk) (n t blanks : ℕ) (again : Bool) (target : (arrow_at l n).target ≡ t)
-    (reached_is : new.reached.items ≡ slice_set old.reached.items t true) (told_is : new.told.items ≡ slice_set old.told.items n true)
-    (count_is : new.count ≡ old.count + 1) (lines_is : new.lines.items ≡ old.lines.items ++ Step n again blanks ∷ [])
-    (waiting_is : new.waiting.items ≡ old.waiting.items) (was : again ≡ is_marked old.reached.items t) (within : n < length l.arrows)
-    (inside : t < l.states) (from : IsComeTo l old.lines.items (arrow_at l n).source) (unsaid : is_marked old.told.items n ≡ false)
-    (room : IsUsedUp l most old.count → ⊥) where
-  on : (s : ℕ) → IsComeTo l old.lines.items s → IsComeTo l new.lines.items s
-  on s r = subst (λ ls. IsComeTo l ls s) (sym lines_is) (reached_stays l old.lines.items n again blanks s r)
+pub has_within : (g : Game) (e : Evidence) (u : ℕ) → IsEvidence g e → IsTrue (has e u) → u < length g.vertices
+has_within g e u is h = subst (λ n. u < n) is.long (got e.entries u h)
+  where
+    got : (xs : List (Option Entry)) (k : ℕ) → IsTrue (is_some (slice_index_or xs k None)) → k < length xs
+    got [] k h = absurd (true≢false (sym h))
+    got (x ∷ xs) zero h = omega arith
+    got (x ∷ xs) (suc k) h = let l = got xs k h in omega (arith, l)
 
-  back : (s : ℕ) → IsComeTo l new.lines.items s → IsComeTo l old.lines.items s ⊎ (t ≡ s)
-  back s r = elim (reached_before l old.lines.items n again blanks s (subst (λ ls. IsComeTo l ls s) lines_is r)) [
-    | inl k ↦ inl k
-    | inr e ↦ inr (sym target ∙ e)
-  ]
+-- ------------------------------------------------------------------ a visit is added
 
-  there : IsComeTo l new.lines.items t
-  there = subst (λ s. IsComeTo l new.lines.items s) target (subst (λ ls. IsComeTo l ls (arrow_at l n).target) (sym lines_is)
-      (reached_now l old.lines.items n again blanks))
+module _ (g : Game) (e : Evidence) (root : ℕ) (told : List Bool) (vs : List Visit) (start : ℕ) (waiting : List Way) (way : Way) (kind : Kind)
+    (is : IsWalk g e root told vs start waiting (Some way)) (right : IsOfKind g e vs (length vs) way.vertex kind) where
+  abbrev visit : Visit
+  visit = record { way = way; kind = kind }
 
-  on_told : (m : ℕ) → Contains (steps old.lines.items) m → Contains (steps new.lines.items) m
-  on_told m c = subst (λ ls. Contains (steps ls) m) (sym lines_is) (told_stays l old.lines.items n again blanks m c)
+  abbrev now : List Visit
+  now = vs ++ visit ∷ []
 
-  now_told : Contains (steps new.lines.items) n
-  now_told = subst (λ ls. Contains (steps ls) n) (sym lines_is) (told_now l old.lines.items n again blanks)
+  long : length now ≡ suc (length vs)
+  long = let one = length-append vs (visit ∷ []) in omega (arith, one)
 
-  back_told : (m : ℕ) → Contains (steps new.lines.items) m → Contains (steps old.lines.items) m ⊎ (n ≡ m)
-  back_told m c = told_before l old.lines.items n again blanks m (subst (λ ls. Contains (steps ls) m) lines_is c)
+  -- the way leads on from the visit that is added
+  abbrev Leads : Way → Type 0
+  Leads w = LeadsOn g e (length vs) visit (suc (length vs)) w
 
-  same_stops : stops new.lines.items ≡ stops old.lines.items
-  same_stops = ap stops lines_is ∙ stops_of_step old.lines.items n again blanks
+  abbrev IsLed : List Way → Option Way → ℕ → ℕ → Visit → Type 0
+  IsLed ways after t i v =
+      IsTrue (goes_on v.kind) → Goes g e v.way.vertex t
+      → (w : Way) × LeadsOn g e i v (length now) w × (w.vertex ≡ t) × ((after ≡ Some w) ⊎ (Contains ways w × (v.kind ≡ Branch)))
 
-  module _ (waiting : List Way) (before after : Option ℕ) (w : IsWalk l most old waiting before) (kept : (s : ℕ) → before ≡ Some s → after ≡ Some s)
-      (opens : again ≡ false → after ≡ Some t)
-      (opened_is : (s : ℕ) → after ≡ Some s → IsComeTo l new.lines.items s × (Contains (stops old.lines.items) s → ⊥)) where
-    known : again ≡ true → IsComeTo l old.lines.items t
-    known e = (w.reached t).0 (sym was ∙ e)
-
-    -- a state that is reached now was reached, or is open
-    either : (s : ℕ) → IsComeTo l new.lines.items s → IsComeTo l old.lines.items s ⊎ (after ≡ Some s)
-    either s r = elim (back s r) [
-      | inl k ↦ inl k
-      | inr e ↦ elim (yes_or_no again) [
-        | inl told ↦ inl (subst (λ z. IsComeTo l old.lines.items z) e (known told))
-        | inr fresh ↦ inr (opens fresh ∙ ap Some e)
-      ]
-    ]
-
-    walk_tells : IsWalk l most new waiting after
-    walk_tells = record {
-      states = ap length reached_is ∙ (length-set old.reached.items t true ∙ w.states);
-      arrows = ap length told_is ∙ (length-set old.told.items n true ∙ w.arrows);
-      each = subst (λ ls. EachFollows l [] ls) (sym lines_is) (each_more l [] old.lines.items (Step n again blanks) w.each (record {
-        within = within;
-        new = λ c. true≢false (sym ((w.told n).1 c) ∙ unsaid);
-        from = from;
-        again = (
-          λ yes. subst (λ s. IsComeTo l old.lines.items s) (sym target) (known yes),
-          λ r. was ∙ (w.reached t).1 (subst (λ s. IsComeTo l old.lines.items s) target r),
-        );
-      }));
-      reached = λ s. (
-        (λ m. elim (set_adds old.reached.items t s (subst (λ ms. IsTrue (is_marked ms s)) reached_is m)) [
-          | inl k ↦ on s ((w.reached s).0 k)
-          | inr e ↦ subst (λ z. IsComeTo l new.lines.items z) e there
-        ]),
-        (λ r. subst (λ ms. IsTrue (is_marked ms s)) (sym reached_is) (elim (back s r) [
-          | inl k ↦ set_keeps old.reached.items t s ((w.reached s).1 k)
-          | inr e ↦ subst (λ z. IsTrue (is_marked (slice_set old.reached.items t true) z)) e
-              (set_there old.reached.items t (subst (λ z. t < z) (sym w.states) inside))
-        ])),
-      );
-      told = λ m. (
-        (λ k. elim (set_adds old.told.items n m (subst (λ ms. IsTrue (is_marked ms m)) told_is k)) [
-          | inl h ↦ on_told m ((w.told m).0 h)
-          | inr e ↦ subst (λ z. Contains (steps new.lines.items) z) e now_told
-        ]),
-        (λ c. subst (λ ms. IsTrue (is_marked ms m)) (sym told_is) (elim (back_told m c) [
-          | inl h ↦ set_keeps old.told.items n m ((w.told m).1 h)
-          | inr e ↦ subst (λ z. IsTrue (is_marked (slice_set old.told.items n true) z)) e
-              (set_there old.told.items n (subst (λ z. n < z) (sym w.arrows) within))
-        ])),
-      );
-      count = (let one = length-append (steps old.lines.items) (n ∷ []) in
-          let all = ap length (ap steps lines_is ∙ steps_of_step old.lines.items n again blanks) in
-          let before = w.count in
-          omega (arith, one, all, before, count_is));
-      rest = (let one = one_fewer old.told.items n (subst (λ z. n < z) (sym w.arrows) within) unsaid in
-          let all = ap unmarked_vertices told_is in
-          let before = w.rest in
-          omega (arith, one, all, before, count_is));
-      few = λ many. (elim (cases_lt old.count most) [ inl less ↦ omega (arith, less, count_is) | inr full ↦ absurd (room (many, full)) ]);
-      onward = λ m lt r. (elim (either (arrow_at l m).source r) [
-        | inl k ↦ elim (w.onward m lt k) [
-          | inl told ↦ inl (on_told m told)
-          | inr (inl waits) ↦ inr (inl waits)
-          | inr (inr (inl full)) ↦ absurd (room full)
-          | inr (inr (inr is)) ↦ inr (inr (inr (kept (arrow_at l m).source is)))
+  pub walk_more : (marks : List Bool) (begin : ℕ) (ways : List Way) (after : Option Way) → length marks ≡ length told
+      → ((u : ℕ) → IsTrue (is_marked marks u) → IsTrue (is_marked told u) ⊎ ((way.vertex ≡ u) × IsTrue (goes_on kind)))
+      → ((j : ℕ) → begin ≤ j → j < length now → (v : Visit) × IsVisit now j v × (v.kind ≡ On))
+      → (begin ≡ 0) ⊎ ((i : ℕ) × (v : Visit) × (begin ≡ suc i) × IsVisit now i v × (v.kind ≢ On))
+      → ((w : Way) → after ≡ Some w → Leads w × IsTrue (has e w.vertex))
+      → ((w : Way) → Contains ways w → Contains waiting w ⊎ ((kind ≡ Branch) × Leads w))
+      → ((w : Way) → Contains waiting w → Contains ways w)
+      → (IsTrue (goes_on kind) → (t : ℕ) → Goes g e way.vertex t
+      → (w : Way) × Leads w × (w.vertex ≡ t) × ((after ≡ Some w) ⊎ (Contains ways w × (kind ≡ Branch))))
+      → IsWalk g e root marks now begin ways after
+  walk_more marks begin ways after same marked run ended next waits stays onward = record {
+    long = same ∙ is.long;
+    begins = inl (let l = long in omega (arith, l));
+    comes = λ k v at. elim (at_cases vs visit k v at) [
+      | inl old ↦ comes_more g e root k vs visit v.way (is.comes k v old)
+      | inr new ↦ subst (λ n. Comes g e root now n v.way) (sym new.0)
+          (subst (λ (w : Visit). Comes g e root now (length vs) w.way) new.1 (comes_more g e root (length vs) vs visit way (is.next way refl).0))
+    ];
+    kinds = λ k v at. elim (at_cases vs visit k v at) [
+      | inl old ↦ kind_more g e k v.way.vertex vs visit v.kind (is.kinds k v old)
+      | inr new ↦ subst (λ n. IsOfKind g e now n v.way.vertex v.kind) (sym new.0)
+          (subst (λ (w : Visit). IsOfKind g e now (length vs) w.way.vertex w.kind) new.1 (kind_more g e (length vs) way.vertex vs visit kind right))
+    ];
+    told = λ u m. elim (marked u m) [
+      | inl old ↦ (let t = is.told u old in (t.0, t.1, at_more vs visit t.0 t.1 t.2, t.3, t.4))
+      | inr h ↦ (length vs, visit, at_last vs visit, h.0, h.1)
+    ];
+    run = run;
+    ended = ended;
+    next = λ w at. (let n = next w at in (inr (length vs, visit, at_last vs visit, subst (λ k. LeadsOn g e (length vs) visit k w) (sym long) n.0), n.1));
+    waits = λ w c. elim (waits w c) [
+      | inl old ↦ (let h = is.waits w old in let l = long in
+          (h.0, h.1, at_more vs visit h.0 h.1 h.2, h.3, leads_later g e h.0 (length vs) (length now) h.1 w (omega (arith, l)) h.3 h.4))
+      | inr h ↦ (length vs, visit, at_last vs visit, h.0, subst (λ k. LeadsOn g e (length vs) visit k w) (sym long) h.1)
+    ];
+    follows = λ i v t at on go. elim (at_cases vs visit i v at) [
+      | inl old ↦ elim (is.follows i v t old on go) [
+        | inl f ↦ inl (f.0, f.1, at_more vs visit f.0 f.1 f.2, f.3, f.4)
+        | inr f ↦ elim f.3 [
+          | inl same ↦ (let e_way : f.0 ≡ way = cc in
+              inl (length vs, visit, at_last vs visit, subst (λ (w : Way). LeadsOn g e i v (length vs) w) e_way f.1, ap (λ (w : Way). w.vertex) (sym e_way) ∙ f.2))
+          | inr c ↦ (let l = long in
+              inr (f.0, leads_later g e i (length vs) (length now) v f.0 (omega (arith, l)) c.1 f.1, f.2, inr (stays f.0 c.0, c.1)))
         ]
-        | inr is ↦ inr (inr (inr is))
-      ]);
-      ends = λ s r none. (elim (either s r) [
-        | inl k ↦ elim (w.ends s k none) [ inl c ↦ inl (subst (λ ss. Contains ss s) (sym same_stops) c) | inr is ↦ inr (kept s is) ]
-        | inr is ↦ inr is
-      ]);
-      stopped = λ s c. on s (w.stopped s (subst (λ ss. Contains ss s) same_stops c));
-      opened = λ s is. ((opened_is s is).0, λ c. (opened_is s is).1 (subst (λ ss. Contains ss s) same_stops c));
-      waits = λ m h. ((w.waits m h).0, on (arrow_at l m).source (w.waits m h).1);
-    }
-
-  walk_by : (waiting : List Way) (o : Option ℕ) → IsWalk l most old waiting o → (b : Bool) → again ≡ b
-      → MatchBool (not b) (o ≡ None → IsWalk l most new waiting (Some (arrow_at l n).target)) (IsWalk l most new waiting o)
-  walk_by waiting o w true e = walk_tells waiting o o w (λ s is. is) (λ no. absurd (true≢false (sym e ∙ no)))
-      (λ s is. (on s (w.opened s is).0, (w.opened s is).1))
-  walk_by waiting o w false e = λ none. walk_tells waiting o (Some (arrow_at l n).target) w
-      (λ s is. none_some s (sym none ∙ is))
-      (λ no. ap Some target)
-      (λ s is. (
-        subst (λ z. IsComeTo l new.lines.items z) (sym target ∙ some_same (arrow_at l n).target s is) there,
-        λ c. true≢false (sym ((w.reached t).1 (subst (λ z. IsComeTo l old.lines.items z)
-            (sym (some_same (arrow_at l n).target s is) ∙ target) (w.stopped s c)))
-            ∙ (sym was ∙ e)),
-      ))
-
-  counted : (length old.reached.items ≡ l.states) → (b : Bool) → again ≡ b
-      → MatchBool (not b) (unmarked_vertices old.reached.items ≡ suc (unmarked_vertices new.reached.items)) (unmarked_vertices old.reached.items ≡ unmarked_vertices new.reached.items)
-  counted long true e = sym (ap unmarked_vertices reached_is ∙ none_fewer old.reached.items t (sym was ∙ e))
-  counted long false e =
-      let one = one_fewer old.reached.items t (subst (λ z. t < z) (sym long) inside) (sym was ∙ e) in
-      let all = ap unmarked_vertices reached_is in
-      sym one ∙ ap suc (sym all)
-
-  pub has_told : (waiting : List Way) (o : Option ℕ) → IsWalk l most old waiting o → HasToldStep l most n old new (not again)
-  has_told waiting o w = record {
-    walk = λ others p is. walk_by others p is again refl;
-    told = now_told;
-    reached = subst (λ s. IsComeTo l new.lines.items s) (sym target) there;
-    again = λ r. ap not (was ∙ (w.reached t).1 (subst (λ s. IsComeTo l old.lines.items s) target r));
-    stays = on;
-    keeps = on_told;
-    waiting = waiting_is;
-    falls = counted w.states again refl;
+      ]
+      | inr new ↦ inr (subst (λ n. IsLed ways after t n v) (sym new.0) (subst (λ (w : Visit). IsLed ways after t (length vs) w) new.1
+          (λ yes goes. let o = onward yes t goes in (o.0, subst (λ k. LeadsOn g e (length vs) visit k o.0) (sym long) o.1, o.2, o.3))) on go)
+    ];
   }
 
--- ------------------------------------------------------------------ others are told
+-- it ends its run
+pub walk_ends_run : (g : Game) (e : Evidence) (root : ℕ) (told : List Bool) (vs : List Visit) (start : ℕ) (waiting : List Way) (way : Way) (kind : Kind)
+    → goes_on kind ≡ false → IsWalk g e root told vs start waiting (Some way) → IsOfKind g e vs (length vs) way.vertex kind
+    → IsWalk g e root told (vs ++ record { way = way; kind = kind } ∷ []) (length vs + 1) waiting None
+walk_ends_run g e root told vs start waiting way kind ends is right =
+    walk_more g e root told vs start waiting way kind is right told (length vs + 1) waiting None refl (λ u m. inl m)
+    (λ j low high. let l = length-append vs (record { way = way; kind = kind } ∷ []) in absurd (omega (arith, l, low, high)))
+    (inr (length vs, record { way = way; kind = kind }, omega arith, at_last vs _, λ on. true≢false (sym (ap goes_on on) ∙ ends)))
+    (λ w none. absurd cc) (λ w c. inl c) (λ w c. c) (λ yes. absurd (true≢false (sym yes ∙ ends)))
 
-pub none_told : (l : System) (most : ℕ) (w : Walk) → HasToldMore l most w w
-none_told l most w = record {
-  walk = λ waiting o is. is;
-  stays = λ s r. r;
-  keeps = λ m c. c;
-  waiting = refl;
-  falls = refl;
+-- the play has one way on
+pub walk_goes_on : (g : Game) (e : Evidence) (root : ℕ) (told : List Bool) (vs : List Visit) (start : ℕ) (waiting : List Way) (way : Way) (t : ℕ)
+    → IsGood g e → IsWalk g e root told vs start waiting (Some way) → 2 ≤ t → GoesOnlyTo g e way.vertex t
+    → IsWalk g e root (slice_set told way.vertex true) (vs ++ record { way = way; kind = On } ∷ []) start waiting (Some (way_on way way.blanks t))
+walk_goes_on g e root told vs start waiting way t good is high goes =
+    walk_more g e root told vs start waiting way On is (t, high, goes) (slice_set told way.vertex true) start waiting (Some (way_on way way.blanks t))
+    (length-set told way.vertex true)
+    (λ u m. elim (set_adds told way.vertex u m) [ inl old ↦ inl old | inr e ↦ inr (e, refl) ])
+    (λ j low below. elim (cases_lt j (length vs)) [
+      | inl less ↦ (let r = is.run j low less in (r.0, at_more vs _ j r.0 r.1, r.2))
+      | inr more ↦ (let l = length-append vs (new ∷ []) in let same : length vs ≡ j = omega (arith, l, below, more) in
+          (new, subst (λ n. IsVisit (vs ++ new ∷ []) n new) same (at_last vs new), refl))
+    ])
+    (elim is.ended [ inl none ↦ inl none | inr h ↦ inr (h.0, h.1, h.2, at_more vs _ h.0 h.1 h.3, h.4) ])
+    (λ w same. let e_way : way_on way way.blanks t ≡ w = cc in subst (λ (x : Way). LeadsOn g e (length vs) new (suc (length vs)) x × IsTrue (has e x.vertex))
+    e_way (lead, goes_has g e way.vertex t good goes.0))
+    (λ w c. inl c) (λ w c. c)
+    (λ yes s go. (way_on way way.blanks t, lead, goes.1 t s goes.0 go, inl refl))
+  where
+    new : Visit
+    new = record { way = way; kind = On }
+
+    lead : LeadsOn g e (length vs) new (suc (length vs)) (way_on way way.blanks t)
+    lead = record { later = omega arith; next = λ _. refl; goes_on = refl; from = refl; goes = goes.0; blanks = refl }
+
+-- the play has several
+pub walk_branches : (g : Game) (e : Evidence) (root : ℕ) (told : List Bool) (vs : List Visit) (start : ℕ) (waiting ways : List Way) (way : Way) (ts : List ℕ)
+    → IsWalk g e root told vs start waiting (Some way) → AreGoals g e way.vertex ts → HasTwo ts → HasLetWait way ts waiting ways
+    → IsWalk g e root (slice_set told way.vertex true) (vs ++ record { way = way; kind = Branch } ∷ []) (length vs + 1) ways None
+walk_branches g e root told vs start waiting ways way ts is goals two w =
+    walk_more g e root told vs start waiting way Branch is (two.0, two.1, two.2, (goals two.0).1 two.3, (goals two.1).1 two.4)
+    (slice_set told way.vertex true) (length vs + 1) ways None (length-set told way.vertex true)
+    (λ u m. elim (set_adds told way.vertex u m) [ inl old ↦ inl old | inr e ↦ inr (e, refl) ])
+    (λ j low high. let l = length-append vs (new ∷ []) in absurd (omega (arith, l, low, high)))
+    (inr (length vs, new, omega arith, at_last vs new, λ on. absurd cc))
+    (λ x none. absurd cc)
+    (λ x c. elim (w.only x c) [
+      | inl old ↦ inl old
+      | inr h ↦ inr (refl, subst (λ (y : Way). LeadsOn g e (length vs) new (suc (length vs)) y) (sym h.1) (lead h.0 ((goals h.0).1 h.2)))
+    ])
+    w.stays
+    (λ yes t go. (way_on way (deeper way.blanks) t, lead t go, refl, inr (w.all t ((goals t).0 go), refl)))
+  where
+    new : Visit
+    new = record { way = way; kind = Branch }
+
+    lead : (t : ℕ) → Goes g e way.vertex t → LeadsOn g e (length vs) new (suc (length vs)) (way_on way (deeper way.blanks) t)
+    lead t go = record { later = omega arith; next = λ on. absurd cc; goes_on = refl; from = refl; goes = go; blanks = refl }
+
+-- what waited last is next
+pub walk_pops : (g : Game) (e : Evidence) (root : ℕ) (told : List Bool) (vs : List Visit) (start : ℕ) (waiting : List Way) (way : Way) → IsGood g e
+    → IsWalk g e root told vs start (waiting ++ way ∷ []) None → IsWalk g e root told vs start waiting (Some way)
+walk_pops g e root told vs start waiting way good is = record {
+  long = is.long;
+  begins = inr (way, refl);
+  comes = is.comes;
+  kinds = is.kinds;
+  told = is.told;
+  run = is.run;
+  ended = is.ended;
+  next = λ w same. (let e_way : way ≡ w = cc in
+      subst (λ (x : Way). Comes g e root vs (length vs) x × IsTrue (has e x.vertex)) e_way
+      (let h = is.waits way (Contains-push waiting way) in (inr (h.0, h.1, h.2, h.4), goes_has g e h.1.way.vertex way.vertex good h.4.goes)));
+  waits = λ w c. is.waits w (Contains-append_left waiting (way ∷ []) w c);
+  follows = λ i v t at on go. elim (is.follows i v t at on go) [
+    | inl f ↦ inl f
+    | inr f ↦ elim f.3 [
+      | inl none ↦ absurd cc
+      | inr c ↦ elim (Contains-push_cases waiting way f.0 c.0) [
+        | inl old ↦ inr (f.0, f.1, f.2, inr (old, c.1))
+        | inr same ↦ inr (f.0, f.1, f.2, inl (ap Some same))
+      ]
+    ]
+  ];
 }
 
-pub one_told : (l : System) (most n : ℕ) (first second third : Walk) (fresh : Bool) → HasToldMore l most first second → HasToldStep l most n second third fresh
-    → IsComeTo l second.lines.items (arrow_at l n).target
-    → HasToldMore l most first third
-one_told l most n first second third fresh more told there =
-    let old : fresh ≡ false = told.again there in
+-- the root is next
+pub walk_begins : (g : Game) (e : Evidence) (root : ℕ) (told : List Bool) → length told ≡ length g.vertices → ((u : ℕ) → IsTrue (is_marked told u) → ⊥)
+    → IsTrue (has e root) → IsWalk g e root told [] 0 [] (Some (way_to root))
+walk_begins g e root told long none there = record {
+  long = long;
+  begins = inr (way_to root, refl);
+  comes = λ k v at. absurd (no_visit k v at);
+  kinds = λ k v at. absurd (no_visit k v at);
+  told = λ u m. absurd (none u m);
+  run = λ j low high. absurd (omega arith);
+  ended = inl refl;
+  next = λ w same. (let e_way : way_to root ≡ w = cc in
+      subst (λ (x : Way). Comes g e root [] 0 x × IsTrue (has e x.vertex)) e_way (inl (refl, refl), there));
+  waits = λ w c. absurd (contains_none w c);
+  follows = λ i v t at on go. absurd (no_visit i v at);
+}
+  where
+    no_visit : (k : ℕ) (v : Visit) → IsVisit [] k v → ⊥
+    no_visit k v at = cc
+
+first_visit : (xs : List Visit) → 0 < length xs → (v : Visit) × IsVisit xs 0 v
+first_visit [] h = absurd (omega arith)
+first_visit (v ∷ xs) h = (v, refl)
+
+-- nothing is next or waits
+pub walk_ends : (g : Game) (e : Evidence) (root most : ℕ) (told : List Bool) (vs : List Visit) (start : ℕ) (waiting : List Way) → length waiting ≡ 0
+    → IsWalk g e root told vs start waiting None → IsTelling g e root most vs
+walk_ends g e root most told vs start waiting none is = record {
+  begins = elim is.begins [ inl some ↦ first_visit vs some | inr h ↦ absurd (no_way h.0 h.1) ];
+  comes = is.comes;
+  kinds = is.kinds;
+  follows = λ few i v t at on go. elim (is.follows i v t at on go) [
+    | inl f ↦ f
+    | inr f ↦ elim f.3 [ inl h ↦ absurd (no_way f.0 h) | inr c ↦ (let some = c.0.1 in absurd (omega (arith, none, some))) ]
+  ];
+}
+  where
+    no_way : (w : Way) → ◌≡◌ {A = Option Way} None (Some w) → ⊥
+    no_way w h = cc
+
+-- there are so many visits
+pub walk_stops : (g : Game) (e : Evidence) (root most : ℕ) (told : List Bool) (vs : List Visit) (start : ℕ) (waiting : List Way) (next : Option Way) → 0 < most
+    → most ≤ length vs → IsWalk g e root told vs start waiting next → IsTelling g e root most vs
+walk_stops g e root most told vs start waiting next some many is = record {
+  begins = first_visit vs (omega arith);
+  comes = is.comes;
+  kinds = is.kinds;
+  follows = λ few. absurd (omega (arith, few, many));
+}
+
+-- ------------------------------------------------------------------ a way is told
+
+by_added : (g : Game) (e : Evidence) (root : ℕ) (way : Way) (kind : Kind) (old new : Walk) (marks : List Bool) (begin : ℕ) (after : Option Way)
+    → HasAdded way kind old new marks begin
+    → IsWalk g e root marks (old.visits.items ++ record { way = way; kind = kind } ∷ []) begin new.waiting.items after → IsWalkBy g e root new after
+by_added g e root way kind old new marks begin after is h =
+    subst (λ ms. IsWalk g e root ms new.visits.items new.start new.waiting.items after) (sym is.told)
+    (subst (λ vs. IsWalk g e root marks vs new.start new.waiting.items after) (sym is.visits)
+    (subst (λ n. IsWalk g e root marks (old.visits.items ++ record { way = way; kind = kind } ∷ []) n new.waiting.items after) (sym is.start) h))
+
+pub told_end : (g : Game) (e : Evidence) (way : Way) (kind : Kind) (old new : Walk) (r : Result (Option Way) Memory) → goes_on kind ≡ false
+    → ((root : ℕ) → IsWalkBy g e root old (Some way) → IsOfKind g e old.visits.items (length old.visits.items) way.vertex kind)
+    → IfOk r (λ next. next ≡ None) → IfOk r (λ _. HasAdded way kind old new old.told.items (length old.visits.items + 1))
+    → IfOk r (λ _. new.waiting.items ≡ old.waiting.items) → IfOk r (HasTold g e way old new)
+told_end g e way kind old new (Err x) ends right none added waiting = tt
+told_end g e way kind old new (Ok next) ends right none added waiting = record {
+  walk = λ root is. subst (λ o. IsWalkBy g e root new o) (sym none) (by_added g e root way kind old new old.told.items (length old.visits.items + 1) None added
+      (subst (λ ws. IsWalk g e root old.told.items (old.visits.items ++ record { way = way; kind = kind } ∷ []) (length old.visits.items + 1) ws None) (sym waiting)
+      (walk_ends_run g e root old.told.items old.visits.items old.start old.waiting.items way kind ends is (right root is))));
+  falls = (let m = ap unmarked_vertices added.told in let w = ap length waiting in let n = ap count_of none in
+      let same : unmarked_vertices new.told.items * suc (length g.vertices) ≡ unmarked_vertices old.told.items * suc (length g.vertices)
+      = ap (λ k. k * suc (length g.vertices)) m in
+      omega (arith, same, w, n));
+}
+
+-- one vertex fewer is left
+fewer : (told : List Bool) (u n : ℕ) → u < length told → is_marked told u ≡ false
+    → unmarked_vertices (slice_set told u true) * suc n + suc n ≡ unmarked_vertices told * suc n
+fewer told u n lt new = let one = one_fewer told u lt new in
+    let more : unmarked_vertices told * suc n ≡ suc (unmarked_vertices (slice_set told u true)) * suc n = ap (λ k. k * suc n) (sym one) in
+    grind (arith, more)
+
+pub told_on : (g : Game) (e : Evidence) (way : Way) (t : ℕ) (old new : Walk) (r : Result (Option Way) Memory) → IsGood g e → 2 ≤ t → GoesOnlyTo g e way.vertex t
+    → way.vertex < length old.told.items → is_marked old.told.items way.vertex ≡ false
+    → IfOk r (λ next. next ≡ Some (way_on way way.blanks t))
+    → IfOk r (λ _. HasAdded way On old new (slice_set old.told.items way.vertex true) old.start)
+    → IfOk r (λ _. new.waiting.items ≡ old.waiting.items) → IfOk r (HasTold g e way old new)
+told_on g e way t old new (Err x) good high goes within fresh is added waiting = tt
+told_on g e way t old new (Ok next) good high goes within fresh is added waiting =
+    let marks = slice_set old.told.items way.vertex true in
     record {
-      walk = λ waiting o is. subst (λ b. MatchBool b (o ≡ None → IsWalk l most third waiting (Some (arrow_at l n).target)) (IsWalk l most third waiting o)) old
-          (told.walk waiting o (more.walk waiting o is));
-      stays = λ s r. told.stays s (more.stays s r);
-      keeps = λ m c. told.keeps m (more.keeps m c);
-      waiting = told.waiting ∙ more.waiting;
-      falls = more.falls ∙ subst (λ b. MatchBool b (unmarked_vertices second.reached.items ≡ suc (unmarked_vertices third.reached.items))
-          (unmarked_vertices second.reached.items ≡ unmarked_vertices third.reached.items)) old told.falls;
+      walk = λ root w. subst (λ o. IsWalkBy g e root new o) (sym is) (by_added g e root way On old new marks old.start (Some (way_on way way.blanks t)) added
+          (subst (λ ws. IsWalk g e root marks (old.visits.items ++ record { way = way; kind = On } ∷ []) old.start ws (Some (way_on way way.blanks t))) (sym waiting)
+          (walk_goes_on g e root old.told.items old.visits.items old.start old.waiting.items way t good w high goes)));
+      falls = (let w = ap length waiting in let n = ap count_of is in
+          let same : unmarked_vertices new.told.items * suc (length g.vertices) ≡ unmarked_vertices marks * suc (length g.vertices)
+          = ap (λ ms. unmarked_vertices ms * suc (length g.vertices)) added.told in
+          let less = fewer old.told.items way.vertex (length g.vertices) within fresh in
+          omega (arith, same, w, n, less));
     }
 
-pub more_told : (l : System) (most : ℕ) (first second third : Walk) → HasToldMore l most first second → HasToldMore l most second third
-    → HasToldMore l most first third
-more_told l most first second third a b = record {
-  walk = λ waiting o is. b.walk waiting o (a.walk waiting o is);
-  stays = λ s r. b.stays s (a.stays s r);
-  keeps = λ m c. b.keeps m (a.keeps m c);
-  waiting = b.waiting ∙ a.waiting;
-  falls = a.falls ∙ b.falls;
-}
+pub told_branch : (g : Game) (e : Evidence) (way : Way) (ts : List ℕ) (old new : Walk) (r : Result (Option Way) Memory) → AreGoals g e way.vertex ts → HasTwo ts
+    → length ts ≤ length g.vertices → way.vertex < length old.told.items → is_marked old.told.items way.vertex ≡ false → IfOk r (λ next. next ≡ None)
+    → IfOk r (λ _. HasAdded way Branch old new (slice_set old.told.items way.vertex true) (length old.visits.items + 1))
+    → IfOk r (λ _. HasLetWait way ts old.waiting.items new.waiting.items) → IfOk r (HasTold g e way old new)
+told_branch g e way ts old new (Err x) goals two few within fresh is added waiting = tt
+told_branch g e way ts old new (Ok next) goals two few within fresh is added waiting =
+    let marks = slice_set old.told.items way.vertex true in
+    record {
+      walk = λ root w. subst (λ o. IsWalkBy g e root new o) (sym is) (by_added g e root way Branch old new marks (length old.visits.items + 1) None added
+          (walk_branches g e root old.told.items old.visits.items old.start old.waiting.items new.waiting.items way ts w goals two waiting));
+      falls = (let w = waiting.long in let n = ap count_of is in
+          let same : unmarked_vertices new.told.items * suc (length g.vertices) ≡ unmarked_vertices marks * suc (length g.vertices)
+          = ap (λ ms. unmarked_vertices ms * suc (length g.vertices)) added.told in
+          let less = fewer old.told.items way.vertex (length g.vertices) within fresh in
+          omega (arith, same, w, n, less, few));
+    }
 
--- ------------------------------------------------------------------ a state is visited
-
--- no step leads on from it
-pub walk_stops : (l : System) (most : ℕ) (old new : Walk) (waiting : List Way) (s blanks : ℕ) → new.reached.items ≡ old.reached.items
-    → new.told.items ≡ old.told.items → new.count ≡ old.count → new.lines.items ≡ old.lines.items ++ Stop s blanks ∷ [] → HasNoStep l s
-    → IsWalk l most old waiting (Some s)
-    → IsWalk l most new waiting None
-walk_stops l most old new waiting s blanks reached_is told_is count_is lines_is none w = record {
-  states = ap length reached_is ∙ w.states;
-  arrows = ap length told_is ∙ w.arrows;
-  each = subst (λ ls. EachFollows l [] ls) (sym lines_is) (each_more l [] old.lines.items (Stop s blanks) w.each
-      (record { none = none; reached = (w.opened s refl).0; new = (w.opened s refl).1 }));
-  reached = λ t. (
-    (λ m. on t ((w.reached t).0 (subst (λ ms. IsTrue (is_marked ms t)) reached_is m))),
-    (λ r. subst (λ ms. IsTrue (is_marked ms t)) (sym reached_is) ((w.reached t).1 (back t r))),
-  );
-  told = λ m. (
-    (λ k. subst (λ ms. Contains ms m) (sym same_steps) ((w.told m).0 (subst (λ ms. IsTrue (is_marked ms m)) told_is k))),
-    (λ c. subst (λ ms. IsTrue (is_marked ms m)) (sym told_is) ((w.told m).1 (subst (λ ms. Contains ms m) same_steps c))),
-  );
-  count = count_is ∙ (w.count ∙ ap length (sym same_steps));
-  rest = (let all = ap unmarked_vertices told_is in let before = w.rest in omega (arith, all, before, count_is));
-  few = λ many. (let before = w.few many in omega (arith, before, count_is));
-  onward = λ m lt r. (elim (w.onward m lt (back (arrow_at l m).source r)) [
-    | inl told ↦ inl (subst (λ ms. Contains ms m) (sym same_steps) told)
-    | inr (inl waits) ↦ inr (inl waits)
-    | inr (inr (inl full)) ↦ inr (inr (inl (full.0, (let k = full.1 in omega (arith, k, count_is)))))
-    | inr (inr (inr is)) ↦ absurd (none m lt (sym (some_same s (arrow_at l m).source is)))
-  ]);
-  ends = λ t r no_step. inl (subst (λ ls. Contains (stops ls) t) (sym lines_is) (elim (w.ends t (back t r) no_step) [
-    | inl c ↦ stop_stays l old.lines.items s blanks t c
-    | inr is ↦ subst (λ z. Contains (stops (old.lines.items ++ Stop s blanks ∷ [])) z) (some_same s t is) (stop_now l old.lines.items s blanks)
-  ]));
-  stopped = λ t c. (elim (stop_before l old.lines.items s blanks t (subst (λ ls. Contains (stops ls) t) lines_is c)) [
-    | inl k ↦ on t (w.stopped t k)
-    | inr e ↦ subst (λ z. IsComeTo l new.lines.items z) e (on s (w.opened s refl).0)
-  ]);
-  opened = λ t is. none_some t is;
-  waits = λ m h. ((w.waits m h).0, on (arrow_at l m).source (w.waits m h).1);
+-- one more waits
+pub wait_more : (from : Way) (x : ℕ) (ts : List ℕ) (old ways : List Way) → HasLetWait from ts old ways
+    → HasLetWait from (x ∷ ts) old (ways ++ way_on from (deeper from.blanks) x ∷ [])
+wait_more from x ts old ways h = record {
+  stays = λ w c. Contains-append_left ways _ w (h.stays w c);
+  all = λ t c. elim (contains_cases x t ts c) [
+    | inl same ↦ subst (λ z. Contains (ways ++ on x ∷ []) (on z)) same (Contains-push ways (on x))
+    | inr c ↦ Contains-append_left ways (on x ∷ []) (on t) (h.all t c)
+  ];
+  only = λ w c. elim (Contains-push_cases ways (on x) w c) [
+    | inl k ↦ elim (h.only w k) [ inl old ↦ inl old | inr o ↦ inr (o.0, o.1, contains_later x o.0 ts o.2) ]
+    | inr same ↦ inr (x, sym same, contains_first x ts)
+  ];
+  long = (let l = length-append ways (on x ∷ []) in let k = h.long in omega (arith, l, k));
 }
   where
-    on : (t : ℕ) → IsComeTo l old.lines.items t → IsComeTo l new.lines.items t
-    on t r = subst (λ ls. IsComeTo l ls t) (sym lines_is) (still_reached l old.lines.items s blanks t r)
+    on : ℕ → Way
+    on t = way_on from (deeper from.blanks) t
 
-    back : (t : ℕ) → IsComeTo l new.lines.items t → IsComeTo l old.lines.items t
-    back t r = was_reached l old.lines.items s blanks t (subst (λ ls. IsComeTo l ls t) lines_is r)
-
-    same_steps : steps new.lines.items ≡ steps old.lines.items
-    same_steps = ap steps lines_is ∙ steps_of_stop old.lines.items s blanks
-
--- its transitions wait, of which there is one
-pub walk_waits : (l : System) (most : ℕ) (old new : Walk) (waiting now_waiting : List Way) (s first : ℕ) → HasLetWait old new
-    → first < length l.arrows → (arrow_at l first).source ≡ s
-    → ((m : ℕ) → Waits waiting m → Waits now_waiting m)
-    → ((m : ℕ) → m < length l.arrows → (arrow_at l m).source ≡ s → Waits now_waiting m)
-    → ((m : ℕ) → Waits now_waiting m → Waits waiting m ⊎ ((m < length l.arrows) × ((arrow_at l m).source ≡ s)))
-    → IsWalk l most old waiting (Some s)
-    → IsWalk l most new now_waiting None
-walk_waits l most old new waiting now_waiting s first same lt begins stay wait back w = record {
-  states = ap length same.reached ∙ w.states;
-  arrows = ap length same.told ∙ w.arrows;
-  each = subst (λ ls. EachFollows l [] ls) (sym same.lines) w.each;
-  reached = λ t. (
-    (λ m. on t ((w.reached t).0 (subst (λ ms. IsTrue (is_marked ms t)) same.reached m))),
-    (λ r. subst (λ ms. IsTrue (is_marked ms t)) (sym same.reached) ((w.reached t).1 (off t r))),
-  );
-  told = λ m. (
-    (λ k. subst (λ ls. Contains (steps ls) m) (sym same.lines) ((w.told m).0 (subst (λ ms. IsTrue (is_marked ms m)) same.told k))),
-    (λ c. subst (λ ms. IsTrue (is_marked ms m)) (sym same.told) ((w.told m).1 (subst (λ ls. Contains (steps ls) m) same.lines c))),
-  );
-  count = same.count ∙ (w.count ∙ ap (λ ls. length (steps ls)) (sym same.lines));
-  rest = (let all = ap unmarked_vertices same.told in let before = w.rest in let n = same.count in omega (arith, all, before, n));
-  few = λ many. (let before = w.few many in let n = same.count in omega (arith, before, n));
-  onward = λ m below r. (elim (w.onward m below (off (arrow_at l m).source r)) [
-    | inl told ↦ inl (subst (λ ls. Contains (steps ls) m) (sym same.lines) told)
-    | inr (inl waits) ↦ inr (inl (stay m waits))
-    | inr (inr (inl full)) ↦ inr (inr (inl (full.0, (let k = full.1 in let n = same.count in omega (arith, k, n)))))
-    | inr (inr (inr is)) ↦ inr (inl (wait m below (sym (some_same s (arrow_at l m).source is))))
-  ]);
-  ends = λ t r no_step. (elim (w.ends t (off t r) no_step) [
-    | inl c ↦ inl (subst (λ ls. Contains (stops ls) t) (sym same.lines) c)
-    | inr is ↦ absurd (no_step first lt (begins ∙ some_same s t is))
-  ]);
-  stopped = λ t c. on t (w.stopped t (subst (λ ls. Contains (stops ls) t) same.lines c));
-  opened = λ t is. none_some t is;
-  waits = λ m h. (elim (back m h) [
-    | inl old_one ↦ ((w.waits m old_one).0, on (arrow_at l m).source (w.waits m old_one).1)
-    | inr is ↦ (is.0, subst (λ z. IsComeTo l new.lines.items z) (sym is.1) (on s (w.opened s refl).0))
-  ]);
-}
-  where
-    on : (t : ℕ) → IsComeTo l old.lines.items t → IsComeTo l new.lines.items t
-    on t r = subst (λ ls. IsComeTo l ls t) (sym same.lines) r
-
-    off : (t : ℕ) → IsComeTo l new.lines.items t → IsComeTo l old.lines.items t
-    off t r = subst (λ ls. IsComeTo l ls t) same.lines r
-
--- ------------------------------------------------------------------ from the first to the last
-
-pub walk_begins : (l : System) (most : ℕ) (w : Walk) (waiting : List Way) → waiting ≡ [] → w.reached.items ≡ slice_set (replicate l.states false) l.initial true
-    → w.told.items ≡ replicate (length l.arrows) false → w.count ≡ 0 → w.lines.items ≡ [] → l.initial < l.states
-    → IsWalk l most w waiting (Some l.initial)
-walk_begins l most w waiting none_waits reached_is told_is count_is lines_is inside = record {
-  states = ap length reached_is ∙ (length-set (replicate l.states false) l.initial true ∙ length-replicate l.states false);
-  arrows = ap length told_is ∙ length-replicate (length l.arrows) false;
-  each = subst (λ ls. EachFollows l [] ls) (sym lines_is) tt;
-  reached = λ s. (
-    (λ m. elim (set_adds (replicate l.states false) l.initial s (subst (λ ms. IsTrue (is_marked ms s)) reached_is m)) [
-      | inl k ↦ absurd (no_mark l.states s k)
-      | inr e ↦ inl (sym e)
-    ]),
-    (λ r. subst (λ z. IsTrue (is_marked w.reached.items z)) (sym (only s r)) (subst (λ ms. IsTrue (is_marked ms l.initial)) (sym reached_is)
-        (set_there (replicate l.states false) l.initial (subst (λ z. l.initial < z) (sym (length-replicate l.states false)) inside)))),
-  );
-  told = λ n. (
-    (λ m. absurd (no_mark (length l.arrows) n (subst (λ ms. IsTrue (is_marked ms n)) told_is m))),
-    (λ c. absurd (nothing n c)),
-  );
-  count = count_is ∙ ap (λ ls. length (steps ls)) (sym lines_is);
-  rest = (let all = ap unmarked_vertices told_is ∙ all_unmarked (length l.arrows) in omega (arith, all, count_is));
-  few = λ many. omega (arith, count_is);
-  onward = λ n lt r. inr (inr (inr (ap Some (sym (only (arrow_at l n).source r)))));
-  ends = λ s r none. inr (ap Some (sym (only s r)));
-  stopped = λ s c. absurd (no_stops s c);
-  opened = λ s is. (inl (sym (some_same l.initial s is)), λ c. no_stops s c);
-  waits = λ n h. absurd (no_way n h);
-}
-  where
-    no_way : (n : ℕ) → Waits waiting n → ⊥
-    no_way n h = subst (λ ws. Waits ws n) none_waits h
-
-    empty : (x : ℕ) → Contains [] x → ⊥
-    empty x c = omega (arith, c.1)
-
-    nothing : (n : ℕ) → Contains (steps w.lines.items) n → ⊥
-    nothing n c = empty n (subst (λ ls. Contains (steps ls) n) lines_is c)
-
-    no_stops : (s : ℕ) → Contains (stops w.lines.items) s → ⊥
-    no_stops s c = empty s (subst (λ ls. Contains (stops ls) s) lines_is c)
-
-    only : (s : ℕ) → IsComeTo l w.lines.items s → s ≡ l.initial
-    only s (inl e) = e
-    only s (inr (n, c, e)) = absurd (nothing n c)
-
-pub walk_ends : (l : System) (most : ℕ) (w : Walk) (waiting : List Way) → length waiting ≡ 0 → IsConnected l → IsWalk l most w waiting None
-    → IsTelling l most w.lines.items
-walk_ends l most w waiting none connected is = record {
-  each = is.each;
-  stops = λ s r no_step. (elim (is.ends s r no_step) [ inl c ↦ c | inr e ↦ none_some s e ]);
-  all = λ few n lt. (elim (told_or_full n lt) [ inl c ↦ c | inr full ↦ absurd (let many = full.0 in omega (arith, few, many)) ]);
-  most = λ many. (elim (cases_lt w.count most) [
-    | inl less ↦ absurd (let rest = is.rest in let marked = all_marked less in omega (arith, many, less, rest, marked))
-    | inr enough ↦ (let few = is.few many in let n = is.count in omega (arith, enough, few, n))
-  ]);
-}
-  where
-    no_wait : (ways : List Way) (n : ℕ) → length ways ≡ 0 → Waits ways n → ⊥
-    no_wait [] n e h = h
-    no_wait (way ∷ ways) n e h = omega (arith, e)
-
-    next : (n : ℕ) → n < length l.arrows → IsComeTo l w.lines.items (arrow_at l n).source → Contains (steps w.lines.items) n ⊎ IsUsedUp l most w.count
-    next n lt r = elim (is.onward n lt r) [
-      | inl c ↦ inl c
-      | inr (inl waits) ↦ absurd (no_wait waiting n none waits)
-      | inr (inr (inl full)) ↦ inr full
-      | inr (inr (inr e)) ↦ none_some (arrow_at l n).source e
+-- the vertex was told of in another run
+pub met_told : (g : Game) (e : Evidence) (root : ℕ) (w : Walk) (next : Option Way) (u : ℕ) → IsWalkBy g e root w next → IsTrue (is_marked w.told.items u)
+    → ((j : ℕ) (v : Visit) → w.start ≤ j → j < length w.visits.items → IsVisit w.visits.items j v → v.way.vertex ≢ u)
+    → WasTold w.visits.items (length w.visits.items) u
+met_told g e root w next u is marked none =
+    let t = is.told u marked in
+    let below = at_below w.visits.items t.0 t.1 t.2 in
+    elim (cases_lt t.0 w.start) [
+      | inl less ↦ elim is.ended [
+        | inl begins ↦ absurd (omega (arith, begins, less))
+        | inr h ↦ (let last = at_below w.visits.items h.0 h.1 h.3 in let order = h.2 in record {
+          number = t.0;
+          visit = t.1;
+          is = t.2;
+          vertex = t.3;
+          goes_on = t.4;
+          end = h.0;
+          last = h.1;
+          is_last = h.3;
+          order = (omega (arith, less, order), last);
+          ended = h.4;
+        })
+      ]
+      | inr more ↦ absurd (none t.0 t.1 more below t.2 t.3)
     ]
 
-    along : (s : ℕ) (others : List ℕ) (t : ℕ) → IsComeTo l w.lines.items s → IsPath (LeadsTo l) s others t
-        → IsComeTo l w.lines.items t ⊎ IsUsedUp l most w.count
-    along s [] t r p = inl (subst (λ z. IsComeTo l w.lines.items z) p r)
-    along s (m ∷ others) t r ((n, lt, source, target), p) =
-        elim (next n lt (subst (λ z. IsComeTo l w.lines.items z) (sym source) r)) [
-          | inl c ↦ along m others t (inr (n, c, target)) p
-          | inr full ↦ inr full
-        ]
+-- what waited last is told of next
+pub told_pop : (g : Game) (e : Evidence) (way : Way) (old mid new : Walk) (o : Option Way) → IsGood g e → new.told.items ≡ mid.told.items
+    → new.visits.items ≡ mid.visits.items → new.start ≡ mid.start → mid.waiting.items ≡ new.waiting.items ++ option_to_list o → HasTold g e way old mid None
+    → HasTold g e way old new o
+told_pop g e way old mid new o good told visits start is h = by o is
+  where
+    n : ℕ
+    n = length g.vertices
 
-    told_or_full : (n : ℕ) → n < length l.arrows → Contains (steps w.lines.items) n ⊎ IsUsedUp l most w.count
-    told_or_full n lt = elim (along l.initial (connected n lt).0 (arrow_at l n).source (inl refl) (connected n lt).1) [
-      | inl r ↦ next n lt r
-      | inr full ↦ inr full
-    ]
+    marks : unmarked_vertices new.told.items * suc n ≡ unmarked_vertices mid.told.items * suc n
+    marks = ap (λ ms. unmarked_vertices ms * suc n) told
 
-    all_marked : w.count < most → unmarked_vertices w.told.items ≡ 0
-    all_marked less = none_unmarked w.told.items (λ n lt. elim (told_or_full n (subst (λ z. n < z) is.arrows lt)) [
-      | inl c ↦ (is.told n).1 c
-      | inr full ↦ absurd (let k = full.1 in omega (arith, k, less))
-    ])
+    same : (root : ℕ) (ws : List Way) (o : Option Way) → IsWalk g e root mid.told.items mid.visits.items mid.start ws o
+        → IsWalk g e root new.told.items new.visits.items new.start ws o
+    same root ws o w = subst (λ ms. IsWalk g e root ms new.visits.items new.start ws o) (sym told)
+        (subst (λ vs. IsWalk g e root mid.told.items vs new.start ws o) (sym visits)
+        (subst (λ b. IsWalk g e root mid.told.items mid.visits.items b ws o) (sym start) w))
 
--- ------------------------------------------------------------------ the walk comes to an end
+    by : (o : Option Way) → mid.waiting.items ≡ new.waiting.items ++ option_to_list o → HasTold g e way old new o
+    by None is = record {
+      walk = λ root w. same root new.waiting.items None (subst (λ ws. IsWalk g e root mid.told.items mid.visits.items mid.start ws None) (is ∙ append-nil new.waiting.items)
+          (h.walk root w));
+      falls = (let f = h.falls in let l = ap length is in let one = length-append new.waiting.items [] in omega (arith, f, l, one, marks));
+    }
+    by (Some w) is = record {
+      walk = λ root all. same root new.waiting.items (Some w) (walk_pops g e root mid.told.items mid.visits.items mid.start new.waiting.items w good
+          (subst (λ ws. IsWalk g e root mid.told.items mid.visits.items mid.start ws None) is (h.walk root all)));
+      falls = (let f = h.falls in let l = ap length is in let one = length-append new.waiting.items (w ∷ []) in omega (arith, f, l, one, marks));
+    }

@@ -1,10 +1,3 @@
 pub mod Telling
 pub mod Walk
 pub mod Story
-pub mod Mentions
-pub mod Actions
-pub mod Lacks
-pub mod Stakes
-pub mod Remarks
-pub mod Naming
-pub mod Shown

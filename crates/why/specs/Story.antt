@@ -1,80 +1,193 @@
 -- The text of a telling.
-use Rattle.std.specs.Prelude.{ℕ, zero, suc, ◌<◌, Bool, List, [], ◌∷◌, ◌++◌, Option, None, Some, length, take, replicate, codes, decimal, nat_lt, slice_get}
-use Rattle.std.specs.Prelude.{if◌then◌else◌}
-use Rattle.std.specs.List.{AllByRecursion, AllByRecursion-prop}
-use Rattle.std.specs.Coded.{le_prop}
+use Rattle.std.specs.Prelude.{◌≡◌, ℕ, zero, suc, ◌+◌, ◌≤◌, ◌≢◌, ◌-◌, ◌/◌, ◌%◌, Bool, true, false, not, ◌&&◌, ◌||◌, ◌==◌, List, [], ◌∷◌, ◌++◌, Option, None, Some, length, take, replicate, codes, decimal}
+use Rattle.std.specs.Prelude.{nat_le, nat_lt, slice_get, IsTrue, ◌↔◌, ◌⊎◌, ◌<◌, slice_index_or, if◌then◌else◌}
+use Rattle.std.specs.Option.{is_some}
+use Rattle.std.specs.Str.{bytes_eq}
 use Rattle.systems.specs.System.{Arrow, System}
+use Rattle.systems.specs.Numbered.{arrows_from}
 use Rattle.text.specs.Pieces.{line_end}
-use Rattle.why.specs.Remarks.{Remarks}
-use Rattle.why.specs.Telling.{arrow_at}
-use Rattle.why.specs.declared.line.Line.{Line}
-use Rattle.why.specs.declared.line.Line.TheVariants.{Step, Stop}
-use Rattle.why.specs.declared.line.TheConstants.{MOST_BLANKS}
+use Rattle.text.specs.Wrote.{lines_from}
+use Rattle.calculus.specs.Tree.{Action}
+use Rattle.calculus.specs.Canon.{action_text}
+use Rattle.calculus.specs.Holds.{holds}
+use Rattle.forms.specs.Nodes.{Node}
+use Rattle.forms.specs.Tree.{Shape, ConstantNode, ModalityNode}
+use Rattle.why.specs.Telling.{goes_on}
+use Rattle.why.specs.declared.visit.Kind.{Kind}
+use Rattle.why.specs.declared.visit.Kind.TheVariants.{On, Branch, Sink, Back, Told}
+use Rattle.why.specs.declared.visit.Visit.{Visit}
+use Rattle.why.specs.declared.visit.TheConstants.{MOST_BLANKS, MOST_COLUMNS}
+
+-- the state of a vertex, where there are so many nodes
+abbrev pub state_of : ℕ → ℕ → ℕ
+state_of nodes v = (v - 2) / nodes
+
+abbrev pub shape_in : Option Node → Shape
+shape_in None = ConstantNode true
+shape_in (Some node) = node.shape
+
+-- what the node of a vertex is
+abbrev pub shape_at : List Node → ℕ → Shape
+shape_at nodes v = shape_in (slice_get nodes ((v - 2) % length nodes))
 
 abbrev pub blanks_before : ℕ → List ℕ
 blanks_before n = take n (replicate MOST_BLANKS 32)
 
-abbrev pub again_text : Bool → List ℕ
-again_text again = if again then codes " (again)" else []
+-- what is longer than MOST_COLUMNS is cut there
+abbrev pub cut : List ℕ → List ℕ
+cut text = if nat_lt MOST_COLUMNS (length text) then take MOST_COLUMNS text ++ codes ".." else text
 
--- `source -label-> target`, ` (again)` where the target was told of before, and what is at stake
-abbrev pub step_text : List ℕ → Arrow → Bool → List ℕ
-step_text stake a again =
-    decimal a.source ++ (codes " -" ++ (a.label ++ (codes "-> " ++ (decimal a.target ++ (again_text again ++ (stake ++ line_end))))))
+-- a modality without what stands behind it, as `<ACTION>` or `[ACTION]`, and nothing of another node
+abbrev pub modality_text : Shape → List ℕ
+modality_text (ModalityNode true a child) = codes "<" ++ (action_text a ++ codes ">")
+modality_text (ModalityNode false a child) = codes "[" ++ (action_text a ++ codes "]")
+modality_text _ = []
 
--- `state: no step`, and what is lacking there
-abbrev pub stop_text : List ℕ → ℕ → List ℕ
-stop_text lack s = decimal s ++ (codes ": no step" ++ (lack ++ line_end))
+abbrev pub modality_at : List Node → ℕ → List ℕ
+modality_at nodes v = cut (modality_text (shape_at nodes v))
 
--- the step that a line tells
-abbrev pub step_of : System → Option Line → Option Arrow
-step_of l None = None
-step_of l (Some (Step number again blanks)) = Some (arrow_at l number)
-step_of l (Some (Stop state blanks)) = None
+abbrev pub modality_of : Node → List ℕ
+modality_of node = cut (modality_text node.shape)
 
--- the text of a line behind the line before it
-abbrev pub line_text : Remarks → System → Option Line → Line → List ℕ
-line_text r l before (Step number again blanks) = blanks_before blanks ++ step_text (r.stake (step_of l before) (arrow_at l number)) (arrow_at l number) again
-line_text r l before (Stop state blanks) = blanks_before blanks ++ stop_text (r.lack state) state
+-- the action formula of a modality
+abbrev pub action_in : Shape → Option Action
+action_in (ModalityNode flag a child) = Some a
+action_in _ = None
 
-abbrev pub lines_text : Remarks → System → Option Line → List Line → List ℕ
-lines_text r l before [] = []
-lines_text r l before (line ∷ lines) = line_text r l before line ++ lines_text r l (Some line) lines
+abbrev pub action_at : List Node → ℕ → Option Action
+action_at nodes v = action_in (shape_at nodes v)
 
--- what stands before the lines, where there are more transitions than are told
-abbrev pub count_line : (transitions limit : ℕ) → List ℕ
-count_line transitions limit = codes "witness " ++ (decimal transitions ++ (codes " transitions, the first " ++ (decimal limit ++ (codes ":" ++ line_end))))
+-- the label of the first of these transitions that leads to the state and has a label of which the action formula holds
+abbrev pub first_label : Action → (target : ℕ) → List Arrow → List ℕ
+first_label a t [] = []
+first_label a t (arrow ∷ arrows) = if arrow.target == t && holds a arrow.label then arrow.label else first_label a t arrows
 
-abbrev pub count_text : (transitions limit : ℕ) → List ℕ
-count_text transitions limit = if nat_lt limit transitions then count_line transitions limit else []
+-- the modality by which a step is taken, where the line before isn't a step by the same one
+abbrev pub modality_told : List Node → (before : Option ℕ) → (from : ℕ) → List ℕ
+modality_told nodes None u = modality_at nodes u
+modality_told nodes (Some w) u = if bytes_eq (modality_at nodes w) (modality_at nodes u) then [] else modality_at nodes u
 
-abbrev pub telling_text : Remarks → System → (limit : ℕ) → List Line → List ℕ
-telling_text r l limit lines = count_text (length l.arrows) limit ++ lines_text r l None lines
+abbrev pub by_text : (modality : List ℕ) → List ℕ
+by_text [] = []
+by_text (c ∷ text) = codes " by " ++ c ∷ text
 
--- the line before the one of this number
-abbrev pub line_before : List Line → ℕ → Option Line
-line_before lines zero = None
-line_before lines (suc n) = slice_get lines n
+-- `source -label-> target` and its modality
+abbrev pub step_text : System → List Node → (before : Option ℕ) → (from vertex blanks : ℕ) → Option Action → List ℕ
+step_text l nodes before u v blanks (Some a) =
+    blanks_before blanks ++ (decimal (state_of (length nodes) u) ++ (codes " -" ++ (first_label a (state_of (length nodes) v) (arrows_from l (state_of (length nodes) u))
+    ++ (codes "-> " ++ (decimal (state_of (length nodes) v) ++ (by_text (modality_told nodes before u) ++ line_end))))))
+step_text l nodes before u v blanks None = []
 
-abbrev pub story_text : Remarks → System → (before : Option Line) → Option Line → List ℕ
-story_text r l before None = []
-story_text r l before (Some line) = line_text r l before line
+-- the step that leads to a visit: from a vertex with a modality
+abbrev pub way_text : System → List Node → (before : Option ℕ) → (from : Option ℕ) → (vertex blanks : ℕ) → List ℕ
+way_text l nodes before None v blanks = []
+way_text l nodes before (Some u) v blanks = step_text l nodes before u v blanks (action_at nodes u)
 
--- the text of the line of this number
-abbrev pub text_at : Remarks → System → List Line → ℕ → List ℕ
-text_at r l lines n = story_text r l (line_before lines n) (slice_get lines n)
+-- before the first step of what comes again and again
+abbrev pub head_text : Bool → (blanks : ℕ) → List ℕ
+head_text head blanks = if head then blanks_before blanks ++ (codes "loop:" ++ line_end) else []
 
--- A step has the number of one of so many transitions, and a stop is at one of so many states.
-abbrev pub IsNumbered : (states transitions : ℕ) → Line → Type 0
-IsNumbered states transitions (Step number again blanks) = number < transitions
-IsNumbered states transitions (Stop state blanks) = state < states
+abbrev pub has_none : List Arrow → Bool
+has_none [] = true
+has_none (arrow ∷ arrows) = false
 
-abbrev pub AreLinesOf : (states transitions : ℕ) → List Line → Type 0
-AreLinesOf states transitions lines = AllByRecursion (IsNumbered states transitions) lines
+-- that no step by the action is possible at the state, or none at all
+abbrev pub lack_text : System → (state : ℕ) → Action → List ℕ
+lack_text l s a = if has_none (arrows_from l s) then codes "deadlock" else codes "no " ++ (action_text a ++ codes " here")
 
-pub AreLinesOf-prop : (states transitions : ℕ) (lines : List Line) → IsProp (AreLinesOf states transitions lines)
-AreLinesOf-prop states transitions lines = AllByRecursion-prop (IsNumbered states transitions) one lines
-  where
-    one : (line : Line) → IsProp (IsNumbered states transitions line)
-    one (Step number again blanks) p q i = le_prop p q i
-    one (Stop state blanks) p q i = le_prop p q i
+-- why only a sink follows: the node is a constant, or a modality by which no step is possible
+abbrev pub sink_text : System → (state : ℕ) → Shape → List ℕ
+sink_text l s (ConstantNode flag) = if flag then codes "true here" else codes "false here"
+sink_text l s (ModalityNode flag a child) = lack_text l s a
+sink_text l s _ = []
+
+-- how a run ends
+abbrev pub end_text : System → List Node → (vertex blanks : ℕ) → Kind → List ℕ
+end_text l nodes v blanks On = []
+end_text l nodes v blanks Branch = []
+end_text l nodes v blanks Sink =
+    blanks_before blanks ++ (decimal (state_of (length nodes) v) ++ (codes ": " ++ (sink_text l (state_of (length nodes) v) (shape_at nodes v) ++ line_end)))
+end_text l nodes v blanks (Back i) = blanks_before blanks ++ (codes "back to " ++ (decimal (state_of (length nodes) v) ++ line_end))
+end_text l nodes v blanks Told = blanks_before blanks ++ (decimal (state_of (length nodes) v) ++ (codes ": as above" ++ line_end))
+
+-- the vertex from which the last step was taken, where a line of the same run tells it
+abbrev pub step_after : List Node → Kind → (from before : Option ℕ) → Option ℕ
+step_after nodes On None before = before
+step_after nodes On (Some u) before = if is_some (action_at nodes u) then Some u else before
+step_after nodes _ from before = None
+
+abbrev pub after_visit : List Node → Option Visit → (before : Option ℕ) → Option ℕ
+after_visit nodes None before = before
+after_visit nodes (Some v) before = step_after nodes v.kind v.way.from before
+
+-- that before the visit of this number
+abbrev pub step_before : List Node → List Visit → ℕ → Option ℕ
+step_before nodes visits zero = None
+step_before nodes visits (suc i) = after_visit nodes (slice_get visits i) (step_before nodes visits i)
+
+-- the lines of a visit: the step that leads to it, where a loop begins, and how its run ends
+abbrev pub visit_text : System → List Node → (before : Option ℕ) → (head : Bool) → Option Visit → List ℕ
+visit_text l nodes before head None = []
+visit_text l nodes before head (Some v) =
+    way_text l nodes before v.way.from v.way.vertex v.way.blanks ++ (head_text head v.way.blanks ++ end_text l nodes v.way.vertex v.way.blanks v.kind)
+
+-- the lines of the visit of this number
+abbrev pub text_at : System → List Node → List Visit → (heads : List Bool) → ℕ → List ℕ
+text_at l nodes visits heads i = visit_text l nodes (step_before nodes visits i) (slice_index_or heads i false) (slice_get visits i)
+
+-- The marks are those of the visits to which a run comes back.
+abbrev pub AreHeads : List Visit → List Bool → Type 0
+AreHeads visits heads =
+    (i : ℕ) → i < length visits → IsTrue (slice_index_or heads i false) ↔ ((k : ℕ) × (v : Visit) × (slice_get visits k ≡ Some v) × (v.kind ≡ Back i))
+
+-- That of such a visit was added, where a run ends so.
+abbrev pub HasMarked : Kind → (old new : List Bool) → Type 0
+HasMarked kind old new = (i : ℕ) → i < length old → IsTrue (slice_index_or new i false) ↔ (IsTrue (slice_index_or old i false) ⊎ (kind ≡ Back i))
+
+-- ------------------------------------------------------------------ what is told of it all
+
+abbrev pub count_if : Bool → ℕ
+count_if b = if b then 1 else 0
+
+abbrev pub is_told_step : List Node → Option ℕ → Bool
+is_told_step nodes None = false
+is_told_step nodes (Some u) = is_some (action_at nodes u)
+
+-- how many lines a visit has
+abbrev pub lines_of : List Node → (head : Bool) → Option Visit → ℕ
+lines_of nodes head None = 0
+lines_of nodes head (Some v) = count_if (is_told_step nodes v.way.from) + (count_if head + count_if (not (goes_on v.kind)))
+
+-- how many the visits before this one have
+abbrev pub lines_before : List Node → List Visit → List Bool → ℕ → ℕ
+lines_before nodes visits heads zero = 0
+lines_before nodes visits heads (suc i) = lines_before nodes visits heads i + lines_of nodes (slice_index_or heads i false) (slice_get visits i)
+
+-- So many first visits are told: all, or as many as have so many lines, where that isn't 0.
+pub record IsCut (nodes : List Node) (visits : List Visit) (heads : List Bool) (limit count : ℕ) : Type 0 where
+  pub within : count ≤ length visits
+  pub enough : count < length visits → (limit ≢ 0) × (limit ≤ lines_before nodes visits heads count)
+  pub needed : (k : ℕ) → k < count → (limit ≡ 0) ⊎ (lines_before nodes visits heads k < limit)
+
+-- what stands behind the lines, where visits are left out, or so many were made that some may be
+abbrev pub rest_text : (most count visits : ℕ) → List ℕ
+rest_text most count visits = if nat_lt count visits || nat_le most visits then codes ".." ++ line_end else []
+
+abbrev pub story_text : System → List Node → (most : ℕ) → List Visit → (heads : List Bool) → (count : ℕ) → List ℕ
+story_text l nodes most visits heads count = lines_from (text_at l nodes visits heads) 0 count ++ rest_text most count (length visits)
+
+abbrev pub is_branch : Kind → Bool
+is_branch Branch = true
+is_branch _ = false
+
+-- Some run branches.
+abbrev pub has_branch : List Visit → Bool
+has_branch [] = false
+has_branch (v ∷ visits) = is_branch v.kind || has_branch visits
+
+-- whether the initial state satisfies the formula, and what shows it
+abbrev pub verdict_text : (answer several : Bool) → List ℕ
+verdict_text true true = codes "initial yes: these runs show it"
+verdict_text true false = codes "initial yes: this run shows it"
+verdict_text false true = codes "initial no: these runs break it"
+verdict_text false false = codes "initial no: this run breaks it"

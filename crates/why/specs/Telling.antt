@@ -1,68 +1,91 @@
--- A telling of a system: its transitions line by line, from the initial state on.
-use Rattle.std.specs.Prelude.{◌≡◌, ℕ, ◌≤◌, ◌<◌, ◌↔◌, ◌⊎◌, ◌≢◌, Bool, List, [], ◌∷◌, ◌++◌, length, IsTrue, Contains}
-use Rattle.std.specs.List.{slice_index_or}
-use Rattle.systems.specs.System.{Arrow, System}
-use Rattle.systems.specs.Path.{IsPath}
-use Rattle.why.specs.declared.line.Line.{Line}
-use Rattle.why.specs.declared.line.Line.TheVariants.{Step, Stop}
+-- A telling of a play: the vertices that it passes, run by run.
+use Rattle.std.specs.Prelude.{◌≡◌, ◌≢◌, ℕ, suc, ◌+◌, ◌≤◌, ◌<◌, ◌⊎◌, Bool, true, false, List, length, IsTrue, Some, None, nat_lt, slice_get, if◌then◌else◌}
+use Rattle.game.specs.Game.{Game}
+use Rattle.evidence.specs.Evidence.{Evidence}
+use Rattle.evidence.specs.Witness.{Goes}
+use Rattle.witness.specs.Witness.{GoesOneWayFrom}
+use Rattle.why.specs.declared.visit.Kind.{Kind}
+use Rattle.why.specs.declared.visit.Kind.TheVariants.{On, Branch, Sink, Back, Told}
+use Rattle.why.specs.declared.visit.Visit.{Visit}
+use Rattle.why.specs.declared.visit.Way.{Way}
+use Rattle.why.specs.declared.visit.TheConstants.{MOST_BLANKS}
 
--- the transition of this number
-abbrev pub arrow_at : System → ℕ → Arrow
-arrow_at l n = slice_index_or l.arrows n (record { source = 0; label = []; target = 0 })
+-- The visit of this number is this one.
+abbrev pub IsVisit : List Visit → ℕ → Visit → Type 0
+IsVisit visits i v = slice_get visits i ≡ Some v
 
--- the numbers of the transitions that are told
-abbrev pub steps : List Line → List ℕ
-steps [] = []
-steps (Step number again blanks ∷ lines) = number ∷ steps lines
-steps (Stop state blanks ∷ lines) = steps lines
+-- The play is told further from a visit of this kind.
+abbrev pub goes_on : Kind → Bool
+goes_on On = true
+goes_on Branch = true
+goes_on _ = false
 
--- the states of which it is told that no step leads on
-abbrev pub stops : List Line → List ℕ
-stops [] = []
-stops (Step number again blanks ∷ lines) = stops lines
-stops (Stop state blanks ∷ lines) = state ∷ stops lines
+-- two blanks more, MOST_BLANKS at most
+abbrev pub deeper : ℕ → ℕ
+deeper blanks = if nat_lt blanks MOST_BLANKS then blanks + 2 else blanks
 
--- The lines have come to the state: it is the initial one, or the target of a step that is told.
-abbrev pub IsComeTo : System → List Line → ℕ → Type 0
-IsComeTo l lines s = (s ≡ l.initial) ⊎ ((n : ℕ) × Contains (steps lines) n × ((arrow_at l n).target ≡ s))
+-- how many blanks stand before what follows a visit of this kind
+abbrev pub blanks_after : Kind → ℕ → ℕ
+blanks_after On blanks = blanks
+blanks_after _ blanks = deeper blanks
 
--- No transition begins at the state.
-abbrev pub HasNoStep : System → ℕ → Type 0
-HasNoStep l s = (n : ℕ) → n < length l.arrows → (arrow_at l n).source ≢ s
+-- It is the only way on from the vertex.
+abbrev pub GoesOnlyTo : Game → Evidence → ℕ → ℕ → Type 0
+GoesOnlyTo g e u t = Goes g e u t × GoesOneWayFrom g e u
 
--- A step may follow these lines: it wasn't told, and begins where they have come; the flag stands exactly where they have come to its target, too.
-pub record IsStep (l : System) (before : List Line) (n : ℕ) (flag : Bool) : Type 0 where
-  pub within : n < length l.arrows
-  pub new : Contains (steps before) n → ⊥
-  pub from : IsComeTo l before (arrow_at l n).source
-  pub again : IsTrue flag ↔ IsComeTo l before (arrow_at l n).target
+-- The way leads on from the visit of number i, and is taken to that of number k: the next one, if the play has no other way on there.
+pub record LeadsOn (g : Game) (e : Evidence) (i : ℕ) (v : Visit) (k : ℕ) (way : Way) : Type 0 where
+  pub later : i < k
+  pub next : v.kind ≡ On → k ≡ suc i
+  pub goes_on : IsTrue (goes_on v.kind)
+  pub from : way.from ≡ Some v.way.vertex
+  pub goes : Goes g e v.way.vertex way.vertex
+  pub blanks : way.blanks ≡ blanks_after v.kind v.way.blanks
 
--- It may be told that no step leads on: none does, the lines have come there, and it wasn't told.
-pub record IsStop (l : System) (before : List Line) (s : ℕ) : Type 0 where
-  pub none : HasNoStep l s
-  pub reached : IsComeTo l before s
-  pub new : Contains (stops before) s → ⊥
+-- the way to the root, with which a telling begins
+abbrev pub way_to : ℕ → Way
+way_to root = record { from = None; vertex = root; blanks = 0 }
 
-abbrev pub Follows : System → List Line → Line → Type 0
-Follows l before (Step number again blanks) = IsStep l before number again
-Follows l before (Stop state blanks) = IsStop l before state
+-- The play comes this way to the visit of number k: to the first one by the root, and to each other one from an earlier visit.
+abbrev pub Comes : Game → Evidence → (root : ℕ) → List Visit → ℕ → Way → Type 0
+Comes g e root visits k way = ((k ≡ 0) × (way ≡ way_to root)) ⊎ ((i : ℕ) × (v : Visit) × IsVisit visits i v × LeadsOn g e i v k way)
 
--- Each of the lines follows those before it.
-abbrev pub EachFollows : System → (before lines : List Line) → Type 0
-EachFollows l before [] = Unit {0}
-EachFollows l before (line ∷ lines) = Follows l before line × EachFollows l (before ++ line ∷ []) lines
+-- An earlier visit of another run was to this vertex, and the play is told further from there.
+pub record WasTold (visits : List Visit) (k u : ℕ) : Type 0 where
+  pub number : ℕ
+  pub visit : Visit
+  pub is : IsVisit visits number visit
+  pub vertex : visit.way.vertex ≡ u
+  pub goes_on : IsTrue (goes_on visit.kind)
+  -- the run of that visit ended here
+  pub end : ℕ
+  pub last : Visit
+  pub is_last : IsVisit visits end last
+  pub order : (number ≤ end) × (end < k)
+  pub ended : last.kind ≢ On
 
--- The lines tell all transitions, or so many of them where there are more; and of each state that they have come to, whether a step leads on.
-pub record IsTelling (l : System) (limit : ℕ) (lines : List Line) : Type 0 where
-  pub each : EachFollows l [] lines
-  pub stops : (s : ℕ) → IsComeTo l lines s → HasNoStep l s → Contains (stops lines) s
-  pub all : length l.arrows ≤ limit → (n : ℕ) → n < length l.arrows → Contains (steps lines) n
-  pub most : limit < length l.arrows → length (steps lines) ≡ limit
+-- An earlier visit of the same run, that of number i, was to this vertex.
+pub record ComesBack (visits : List Visit) (k u i : ℕ) : Type 0 where
+  pub visit : Visit
+  pub is : IsVisit visits i visit
+  pub vertex : visit.way.vertex ≡ u
+  pub earlier : i < k
+  pub run : (j : ℕ) → i ≤ j → j < k → (w : Visit) × IsVisit visits j w × (w.kind ≡ On)
 
--- A transition leads from the one state to the other.
-abbrev pub LeadsTo : System → ℕ → ℕ → Type 0
-LeadsTo l s t = (n : ℕ) × (n < length l.arrows) × ((arrow_at l n).source ≡ s) × ((arrow_at l n).target ≡ t)
+-- What is told of the visit of number k to this vertex is so: the play has one way on; or it has several; or its only way on is to a sink; or it was at the
+-- vertex before, in this run or in another.
+abbrev pub IsOfKind : Game → Evidence → List Visit → ℕ → ℕ → Kind → Type 0
+IsOfKind g e visits k u On = (t : ℕ) × (2 ≤ t) × GoesOnlyTo g e u t
+IsOfKind g e visits k u Branch = (s t : ℕ) × (s ≢ t) × Goes g e u s × Goes g e u t
+IsOfKind g e visits k u Sink = (t : ℕ) × (t < 2) × GoesOnlyTo g e u t
+IsOfKind g e visits k u (Back i) = ComesBack visits k u i
+IsOfKind g e visits k u Told = WasTold visits k u
 
--- Each transition can be come to from the initial state.
-abbrev pub IsConnected : System → Type 0
-IsConnected l = (n : ℕ) → n < length l.arrows → (others : List ℕ) × IsPath (LeadsTo l) l.initial others (arrow_at l n).source
+-- The visits tell the play by the evidence from the root: it comes to each of them, and each is of its kind; and wherever the play goes on from a visit, a
+-- later one follows, unless there are so many.
+pub record IsTelling (g : Game) (e : Evidence) (root most : ℕ) (visits : List Visit) : Type 0 where
+  pub begins : (v : Visit) × IsVisit visits 0 v
+  pub comes : (k : ℕ) (v : Visit) → IsVisit visits k v → Comes g e root visits k v.way
+  pub kinds : (k : ℕ) (v : Visit) → IsVisit visits k v → IsOfKind g e visits k v.way.vertex v.kind
+  pub follows : length visits < most → (i : ℕ) (v : Visit) (t : ℕ) → IsVisit visits i v → IsTrue (goes_on v.kind) → Goes g e v.way.vertex t
+      → (k : ℕ) × (w : Visit) × IsVisit visits k w × LeadsOn g e i v k w.way × (w.way.vertex ≡ t)

@@ -1,100 +1,81 @@
--- A walk over a system, as it tells its transitions.
-use Rattle.std.specs.Prelude.{◌≡◌, ℕ, suc, MatchBool, ◌+◌, ◌*◌, ◌≤◌, ◌<◌, ◌↔◌, ◌⊎◌, Bool, false, List, [], ◌∷◌, length}
-use Rattle.std.specs.Prelude.{IsTrue, Contains, Option, None, Some}
-use Rattle.std.specs.List.{slice_index_or}
-use Rattle.std.specs.List.Sorted.{IsNonDecreasingBy}
-use Rattle.systems.specs.System.{System}
-use Rattle.systems.specs.Numbered.{IsInside, system_with}
-use Rattle.systems.specs.declared.system.Transition.{Transition}
-use Rattle.witness.specs.Walk.{is_marked, unmarked_vertices}
-use Rattle.why.specs.Telling.{EachFollows, HasNoStep, IsComeTo, arrow_at, steps, stops}
-use Rattle.why.specs.declared.walk.Block.{Block}
-use Rattle.why.specs.declared.walk.Excerpt.{Excerpt}
+-- A walk along a play, as it tells its visits.
+use Rattle.std.specs.Prelude.{◌≡◌, ◌≢◌, ℕ, suc, ◌+◌, ◌*◌, ◌≤◌, ◌<◌, ◌⊎◌, Bool, List, [], ◌∷◌, ◌++◌, length, IsTrue, Contains, Option, Some, None}
+use Rattle.game.specs.Game.{Game}
+use Rattle.evidence.specs.Evidence.{Evidence, has}
+use Rattle.evidence.specs.Witness.{Goes}
+use Rattle.witness.specs.Walk.{AreGoals, is_marked, unmarked_vertices}
+use Rattle.why.specs.Telling.{Comes, GoesOnlyTo, IsOfKind, IsVisit, LeadsOn, deeper, goes_on}
+use Rattle.why.specs.declared.visit.Kind.TheVariants.{On, Branch}
+use Rattle.why.specs.declared.visit.Kind.{Kind}
+use Rattle.why.specs.declared.visit.Visit.{Visit}
+use Rattle.why.specs.declared.visit.Way.{Way}
 use Rattle.why.specs.declared.walk.Walk.{Walk}
-use Rattle.why.specs.declared.walk.Way.{Way}
+use Rattle.why.specs.declared.walk.Ways.{Ways}
+use Rattle.why.specs.declared.walk.Ways.TheVariants.{One, Many}
 
--- the system that is told
-abbrev pub told_of : Excerpt → System
-told_of excerpt = system_with excerpt.system.now excerpt.transitions.now
+abbrev pub HasTwo : List ℕ → Type 0
+HasTwo ts = (s : ℕ) × (t : ℕ) × (s ≢ t) × Contains ts s × Contains ts t
 
--- So many are told as may be, of more.
-abbrev pub IsUsedUp : System → (most count : ℕ) → Type 0
-IsUsedUp l most count = (most < length l.arrows) × (most ≤ count)
+-- These are the ways on: one, or several.
+abbrev pub AreWaysFrom : Game → Evidence → ℕ → Ways → Type 0
+AreWaysFrom g e u (One t) = GoesOnlyTo g e u t
+AreWaysFrom g e u (Many targets) = AreGoals g e u targets.now × HasTwo targets.now × (length targets.now ≤ length g.vertices)
 
--- The transition of this number isn't told, and more may be.
-pub record MayTell (l : System) (most : ℕ) (w : Walk) (n : ℕ) : Type 0 where
-  pub new : is_marked w.told.items n ≡ false
-  pub room : IsUsedUp l most w.count → ⊥
+-- These are all of the vertices: one, or several.
+abbrev pub AreAll : List ℕ → Ways → Type 0
+AreAll targets (One t) = targets ≡ t ∷ []
+AreAll targets (Many others) = (targets ≡ others.now) × (length targets ≢ 1)
 
--- The transition of this number waits.
-abbrev pub Waits : List Way → ℕ → Type 0
-Waits [] n = ⊥
-Waits (way ∷ ways) n = (way.number ≡ n) ⊎ Waits ways n
+-- What is told so far, where these ways wait, and one is next: the vertices that are marked were told further, the run is the visits from its start on, and
+-- wherever the play goes on from a visit, a later one follows or a way waits.
+pub record IsWalk (g : Game) (e : Evidence) (root : ℕ) (marks : List Bool) (visits : List Visit) (begin : ℕ) (waiting : List Way) (after : Option Way) : Type 0 where
+  pub long : length marks ≡ length g.vertices
+  pub begins : (0 < length visits) ⊎ ((way : Way) × (after ≡ Some way))
+  pub comes : (k : ℕ) (v : Visit) → IsVisit visits k v → Comes g e root visits k v.way
+  pub kinds : (k : ℕ) (v : Visit) → IsVisit visits k v → IsOfKind g e visits k v.way.vertex v.kind
+  pub told : (u : ℕ) → IsTrue (is_marked marks u) → (i : ℕ) × (v : Visit) × IsVisit visits i v × (v.way.vertex ≡ u) × IsTrue (goes_on v.kind)
+  pub run : (j : ℕ) → begin ≤ j → j < length visits → (v : Visit) × IsVisit visits j v × (v.kind ≡ On)
+  pub ended : (begin ≡ 0) ⊎ ((i : ℕ) × (v : Visit) × (begin ≡ suc i) × IsVisit visits i v × (v.kind ≢ On))
+  pub next : (way : Way) → after ≡ Some way → Comes g e root visits (length visits) way × IsTrue (has e way.vertex)
+  pub waits : (way : Way) → Contains waiting way → (i : ℕ) × (v : Visit) × IsVisit visits i v × (v.kind ≡ Branch) × LeadsOn g e i v (length visits) way
+  pub follows : (i : ℕ) (v : Visit) (t : ℕ) → IsVisit visits i v → IsTrue (goes_on v.kind) → Goes g e v.way.vertex t
+      → ((k : ℕ) × (w : Visit) × IsVisit visits k w × LeadsOn g e i v k w.way × (w.way.vertex ≡ t))
+      ⊎ ((way : Way) × LeadsOn g e i v (length visits) way × (way.vertex ≡ t) × ((after ≡ Some way) ⊎ (Contains waiting way × (v.kind ≡ Branch))))
 
--- What is told and what waits, where these wait: each transition from where the walk has come is told or waits, or so many are told as may be. To a
--- state that is open the walk came last: its transitions don't wait yet.
-pub record IsWalk (l : System) (most : ℕ) (w : Walk) (waiting : List Way) (open_state : Option ℕ) : Type 0 where
-  pub states : length w.reached.items ≡ l.states
-  pub arrows : length w.told.items ≡ length l.arrows
-  pub each : EachFollows l [] w.lines.items
-  pub reached : (s : ℕ) → IsTrue (is_marked w.reached.items s) ↔ IsComeTo l w.lines.items s
-  pub told : (n : ℕ) → IsTrue (is_marked w.told.items n) ↔ Contains (steps w.lines.items) n
-  pub count : w.count ≡ length (steps w.lines.items)
-  pub rest : w.count + unmarked_vertices w.told.items ≡ length l.arrows
-  pub few : most < length l.arrows → w.count ≤ most
-  pub onward : (n : ℕ) → n < length l.arrows → IsComeTo l w.lines.items (arrow_at l n).source
-      → Contains (steps w.lines.items) n ⊎ (Waits waiting n ⊎ (IsUsedUp l most w.count ⊎ (open_state ≡ Some (arrow_at l n).source)))
-  pub ends : (s : ℕ) → IsComeTo l w.lines.items s → HasNoStep l s → Contains (stops w.lines.items) s ⊎ (open_state ≡ Some s)
-  pub stopped : (s : ℕ) → Contains (stops w.lines.items) s → IsComeTo l w.lines.items s
-  pub opened : (s : ℕ) → open_state ≡ Some s → IsComeTo l w.lines.items s × (Contains (stops w.lines.items) s → ⊥)
-  pub waits : (n : ℕ) → Waits waiting n → (n < length l.arrows) × IsComeTo l w.lines.items (arrow_at l n).source
+abbrev pub IsWalkBy : Game → Evidence → ℕ → Walk → Option Way → Type 0
+IsWalkBy g e root w next = IsWalk g e root w.told.items w.visits.items w.start w.waiting.items next
 
--- The transition was told. If its target is new, it is open.
-pub record HasToldStep (l : System) (most n : ℕ) (old new : Walk) (fresh : Bool) : Type 0 where
-  pub walk : (waiting : List Way) (open_state : Option ℕ) → IsWalk l most old waiting open_state
-      → MatchBool fresh (open_state ≡ None → IsWalk l most new waiting (Some (arrow_at l n).target)) (IsWalk l most new waiting open_state)
-  pub told : Contains (steps new.lines.items) n
-  pub reached : IsComeTo l new.lines.items (arrow_at l n).target
-  pub again : IsComeTo l old.lines.items (arrow_at l n).target → fresh ≡ false
-  pub stays : (s : ℕ) → IsComeTo l old.lines.items s → IsComeTo l new.lines.items s
-  pub keeps : (m : ℕ) → Contains (steps old.lines.items) m → Contains (steps new.lines.items) m
-  pub waiting : new.waiting.items ≡ old.waiting.items
-  pub falls : MatchBool fresh (unmarked_vertices old.reached.items ≡ suc (unmarked_vertices new.reached.items)) (unmarked_vertices old.reached.items ≡ unmarked_vertices new.reached.items)
+-- The kind is that of a visit that comes to the vertex next.
+abbrev pub IsNextKind : Walk → ℕ → Kind → Type 0
+IsNextKind w u kind = (g : Game) (e : Evidence) (root : ℕ) (next : Option Way) → IsWalkBy g e root w next
+    → IsOfKind g e w.visits.items (length w.visits.items) u kind
 
--- Transitions to states where the walk had come were told.
-pub record HasToldMore (l : System) (most : ℕ) (old new : Walk) : Type 0 where
-  pub walk : (waiting : List Way) (open_state : Option ℕ) → IsWalk l most old waiting open_state → IsWalk l most new waiting open_state
-  pub stays : (s : ℕ) → IsComeTo l old.lines.items s → IsComeTo l new.lines.items s
-  pub keeps : (m : ℕ) → Contains (steps old.lines.items) m → Contains (steps new.lines.items) m
-  pub waiting : new.waiting.items ≡ old.waiting.items
-  pub falls : unmarked_vertices old.reached.items ≡ unmarked_vertices new.reached.items
-
--- Nothing changed but what waits.
-pub record HasLetWait (old new : Walk) : Type 0 where
-  pub reached : new.reached.items ≡ old.reached.items
-  pub told : new.told.items ≡ old.told.items
-  pub count : new.count ≡ old.count
-  pub lines : new.lines.items ≡ old.lines.items
-
--- Of the transitions below one, so many last ones wait, too.
-pub record HasLetBlockWait (old new : List Way) (end count : ℕ) : Type 0 where
-  pub stays : (m : ℕ) → Waits old m → Waits new m
-  pub all : (m : ℕ) → end ≤ m + count → m < end → Waits new m
-  pub only : (m : ℕ) → Waits new m → Waits old m ⊎ ((end ≤ m + count) × (m < end))
-  pub long : length new ≡ length old + count
-
--- The block has the transitions from the state.
-pub record IsBlockOf (transitions : List Transition) (state : ℕ) (block : Block) : Type 0 where
-  pub rises : block.start ≤ block.end
-  pub within : block.end ≤ length transitions
-  pub inside : (n : ℕ) (d : Transition) → block.start ≤ n → n < block.end → (slice_index_or transitions n d).source ≡ state
-  pub all : (n : ℕ) (d : Transition) → n < length transitions → (slice_index_or transitions n d).source ≡ state → (block.start ≤ n) × (n < block.end)
+abbrev pub count_of : Option Way → ℕ
+count_of None = 0
+count_of (Some way) = 1
 
 -- how long the walk can go on
-abbrev pub steps_left : Walk → List Way → ℕ → ℕ
-steps_left w waiting arrows = unmarked_vertices w.reached.items * (arrows + 1) + length waiting
+abbrev pub left : (vertices : ℕ) → Walk → Option Way → ℕ
+left vertices w next = unmarked_vertices w.told.items * suc vertices + (length w.waiting.items + count_of next)
 
--- The transitions are those of the system, ascending by source.
-pub record IsInOrder (excerpt : Excerpt) : Type 0 where
-  pub inside : IsInside excerpt.system.now excerpt.transitions.now
-  pub rising : IsNonDecreasingBy (λ (t : Transition). t.source) excerpt.transitions.now
+-- The way was told of, and another is next or none is.
+pub record HasTold (g : Game) (e : Evidence) (way : Way) (old new : Walk) (next : Option Way) : Type 0 where
+  pub walk : (root : ℕ) → IsWalkBy g e root old (Some way) → IsWalkBy g e root new next
+  pub falls : left (length g.vertices) new next < left (length g.vertices) old (Some way)
+
+-- A visit was added, with these marks and this start of the run.
+pub record HasAdded (way : Way) (kind : Kind) (old new : Walk) (marks : List Bool) (begin : ℕ) : Type 0 where
+  pub told : new.told.items ≡ marks
+  pub visits : new.visits.items ≡ old.visits.items ++ record { way = way; kind = kind } ∷ []
+  pub start : new.start ≡ begin
+
+-- the way on to a vertex
+abbrev pub way_on : Way → (blanks target : ℕ) → Way
+way_on way blanks target = record { from = Some way.vertex; vertex = target; blanks = blanks }
+
+-- The ways on to these vertices wait, too.
+pub record HasLetWait (from : Way) (targets : List ℕ) (old new : List Way) : Type 0 where
+  pub stays : (way : Way) → Contains old way → Contains new way
+  pub all : (t : ℕ) → Contains targets t → Contains new (way_on from (deeper from.blanks) t)
+  pub only : (way : Way) → Contains new way → Contains old way ⊎ ((t : ℕ) × (way ≡ way_on from (deeper from.blanks) t) × Contains targets t)
+  pub long : length new ≡ length old + length targets

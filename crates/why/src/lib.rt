@@ -1,12 +1,7 @@
-// The transitions of a system as a person reads them, from the initial state on.
+// The play that an answer rests on, as a person reads it, from the initial state on.
 #![tactic(auto)]
 
-mod actions;
-mod lacks;
-pub mod line;
-mod mentions;
-pub mod reached;
-pub mod shown;
-mod stakes;
+pub mod setting;
+pub mod visit;
 pub mod walk;
 pub mod writer;

@@ -1,268 +1,235 @@
-// A walk from the initial state on, depth first, which tells each transition once.
+// The walk along a play.
 
-ghost use Rattle.std.specs.Prelude.{◌≡◌, ◌≤◌, ◌<◌, ◌+◌, ◌-◌, ◌∷◌, ◌++◌, ◌↔◌, [], ◌⊎◌, ℕ, List, Option, Some, None, Contains};
-ghost use Rattle.std.specs.Prelude.{OnOk, IfOk, IsTrue, MatchBool, length, slice_index_or};
-ghost use Rattle.std.specs.List.Sorted.{IsNonDecreasingBy};
-ghost use Rattle.systems.specs.declared.system.Transition.{Transition};
-ghost use Rattle.why.specs.declared.walk.Way.{Way};
-ghost use Rattle.why.specs.Telling.{IsConnected, IsComeTo, IsTelling, arrow_at, steps};
-ghost use Rattle.why.specs.Walk.{HasLetBlockWait, HasToldStep, HasToldMore, IsBlockOf, IsUsedUp, IsInOrder, IsWalk, MayTell, steps_left, told_of};
+ghost use Rattle.std.specs.Prelude.{◌≡◌, ◌<◌, ◌+◌, ℕ, false, true, Some, None, IfOk, OnOk, IsTrue, Option, length, slice_set};
+ghost use Rattle.evidence.specs.Evidence.{IsGood, has as has_entry};
+ghost use Rattle.game.specs.Game.{Vertex, vertex};
+ghost use Rattle.witness.specs.Walk.{is_marked as is_marked_in};
+ghost use Rattle.why.specs.Telling.{IsTelling, deeper as deeper_of, goes_on as is_told_further};
+ghost use Rattle.why.specs.Walk.{AreAll, AreWaysFrom, HasAdded, HasLetWait, HasTold, IsNextKind, IsWalkBy, way_on as way_on_by};
 
-use crate::line::{Line, MOST_BLANKS};
-use lts::{Lts, Transition};
+use crate::visit::{Kind, MOST_BLANKS, Visit, Way};
+use evidence::evidence::Evidence;
+use game::graph::Game;
 use std::alloc::Global;
 use text::Memory;
 
-/// A transition that waits to be told, and how many blanks its line begins with.
-#[derive(Clone, Copy)]
-pub(crate) struct Way {
-    pub number: usize,
-    pub blanks: usize,
-}
+/// The first vertex that is no sink.
+const FIRST_PLACE: u32 = 2;
 
-/// The transitions from one number on, below another.
-#[derive(Clone, Copy)]
-pub(crate) struct Block {
-    pub start: usize,
-    pub end: usize,
-}
-
-/// Transitions of a system, which are told, and how many of them at most.
-#[derive(Clone, Copy)]
-pub struct Excerpt<'a> {
-    pub system: &'a Lts,
-    pub transitions: &'a [Transition],
-    pub most: usize,
-}
-
-/// What is told so far, and what waits.
+/// What is told so far, with a mark for each vertex from which the play was told further, and what waits to be told.
 #[derive(Drop)]
-pub(crate) struct Walk {
-    /// A mark for each state, true where the walk has come to it.
-    pub reached: Vec<bool>,
-    /// A mark for each transition, true where it is told.
+pub struct Walk {
     pub told: Vec<bool>,
-    /// How many transitions are told.
-    pub count: usize,
+    pub visits: Vec<Visit>,
+    /// The number of the visit with which the run begins.
+    pub start: usize,
     pub waiting: Vec<Way>,
-    pub lines: Vec<Line>,
 }
 
-/// Tells the excerpt's transitions from the initial state on, depth first: all of them, or so many as may be told. Transitions from one state to
-/// another are told together. A line begins with two blanks more where there is more than one way on.
+/// Where a play can go on from a vertex.
+#[derive(Clone, Copy)]
+pub enum Ways<'a> {
+    One(u32),
+    Many(&'a [u32]),
+}
+
+/// Tells the play by the evidence from a vertex on, depth first: all of it, or so many visits.
 ///
 /// # Errors
 /// Want of memory.
-pub fn telling(alloc: Global, excerpt: &Excerpt<'_>) -> Result<Vec<Line>, Memory>
-    requires ordered { IsInOrder excerpt.now }
-    requires connected { IsConnected (told_of excerpt.now) }
-    ensures { IfOk result (λ lines. IsTelling (told_of excerpt.now) excerpt.now.most lines.items) }
+pub fn telling(
+    alloc: Global,
+    game: &Game,
+    evidence: &Evidence,
+    root: u32,
+    most: usize,
+) -> Result<Vec<Visit>, Memory>
+    requires same { evidence.now.game ≡ game.now }
+    requires good { IsGood game.now evidence.now.evidence }
+    requires root { IsTrue (has_entry evidence.now.evidence root) }
+    requires some { 0 < most }
+    ensures { IfOk result (λ visits. IsTelling game.now evidence.now.evidence root most visits.items) }
 {
-    let mut walk = begin(alloc, excerpt)?;
-    visit(excerpt, excerpt.system.initial(), 0, &mut walk)?;
-    while let Some(way) = walk.waiting.pop() {
-        go_on(excerpt, way, &mut walk)?;
-    }
-    Ok(walk.lines)
-}
-
-/// The walk stands at the initial state, and nothing is told.
-fn begin(alloc: Global, excerpt: &Excerpt<'_>) -> Result<Walk, Memory>
-    requires { IsInOrder excerpt.now }
-    ensures { let l = told_of excerpt.now in IfOk result (λ w. IsWalk l excerpt.now.most w w.waiting.items (Some l.initial)) }
-{
-    let mut reached = vec![in alloc; false; excerpt.system.states() as usize]?;
-    reached[excerpt.system.initial() as usize] = true;
-    let told = vec![in alloc; false; excerpt.transitions.len()]?;
-    Ok(Walk {
-        reached,
-        told,
-        count: 0,
+    evidence.known();
+    let mut walk = Walk {
+        told: vec![in alloc; false; game.vertices() as usize]?,
+        visits: Vec::new(alloc),
+        start: 0,
         waiting: Vec::new(alloc),
-        lines: Vec::new(alloc),
-    })
-}
-
-/// Tells a transition that waited, unless it is told or no more may be.
-fn go_on(excerpt: &Excerpt<'_>, way: Way, walk: &mut Walk) -> Result<(), Memory>
-    requires ordered { IsInOrder excerpt.now }
-    requires walk { IsWalk (told_of excerpt.now) excerpt.now.most walk.old (walk.old.waiting.items ++ way ∷ []) None }
-    ensures walk { OnOk result (IsWalk (told_of excerpt.now) excerpt.now.most walk.new walk.new.waiting.items None) }
-    ensures falls { let n = length excerpt.now.transitions.now in
-        OnOk result (steps_left walk.new walk.new.waiting.items n ≤ steps_left walk.old walk.old.waiting.items n) }
-{
-    if may_tell(excerpt, way.number, walk) {
-        tell_way(excerpt, way, walk)
-    } else {
-        Ok(())
-    }
-}
-
-/// Tells a transition, and those beside it. If its target is new, the transitions from there wait.
-fn tell_way(excerpt: &Excerpt<'_>, way: Way, walk: &mut Walk) -> Result<(), Memory>
-    requires ordered { IsInOrder excerpt.now }
-    requires within { way.number < length excerpt.now.transitions.now }
-    requires walk { IsWalk (told_of excerpt.now) excerpt.now.most walk.old (walk.old.waiting.items ++ way ∷ []) None }
-    requires from { IsComeTo (told_of excerpt.now) walk.old.lines.items (arrow_at (told_of excerpt.now) way.number).source }
-    requires may { MayTell (told_of excerpt.now) excerpt.now.most walk.old way.number }
-    ensures walk { OnOk result (IsWalk (told_of excerpt.now) excerpt.now.most walk.new walk.new.waiting.items None) }
-    ensures falls { let n = length excerpt.now.transitions.now in
-        OnOk result (steps_left walk.new walk.new.waiting.items n ≤ steps_left walk.old walk.old.waiting.items n) }
-{
-    let target = excerpt.transitions[way.number].target;
-    let new = tell(excerpt, way, walk)?;
-    tell_others(excerpt, way, walk)?;
-    if new {
-        visit(excerpt, target, way.blanks, walk)
-    } else {
-        Ok(())
-    }
-}
-
-/// Whether a transition isn't told and may be.
-fn may_tell(excerpt: &Excerpt<'_>, number: usize, walk: &Walk) -> bool
-    requires within { number < length excerpt.now.transitions.now }
-    requires walk { (waiting : List Way) × (open_state : Option ℕ) × IsWalk (told_of excerpt.now) excerpt.now.most walk.now waiting open_state }
-    ensures { let l = told_of excerpt.now in MatchBool result (MayTell l excerpt.now.most walk.now number)
-        (Contains (steps walk.now.lines.items) number ⊎ IsUsedUp l excerpt.now.most walk.now.count) }
-{
-    !walk.told[number] && !is_full(excerpt, walk)
-}
-
-/// Whether no more may be told.
-fn is_full(excerpt: &Excerpt<'_>, walk: &Walk) -> bool
-    ensures { IsTrue result ↔ IsUsedUp (told_of excerpt.now) excerpt.now.most walk.now.count }
-{
-    excerpt.most < excerpt.transitions.len() && excerpt.most <= walk.count
-}
-
-/// Tells a transition, and answers whether its target is new.
-fn tell(excerpt: &Excerpt<'_>, way: Way, walk: &mut Walk) -> Result<bool, Memory>
-    requires ordered { IsInOrder excerpt.now }
-    requires within { way.number < length excerpt.now.transitions.now }
-    requires walk { (waiting : List Way) × (open_state : Option ℕ) × IsWalk (told_of excerpt.now) excerpt.now.most walk.old waiting open_state }
-    requires from { IsComeTo (told_of excerpt.now) walk.old.lines.items (arrow_at (told_of excerpt.now) way.number).source }
-    requires may { MayTell (told_of excerpt.now) excerpt.now.most walk.old way.number }
-    ensures { IfOk result (HasToldStep (told_of excerpt.now) excerpt.now.most way.number walk.old walk.new) }
-{
-    let target = excerpt.transitions[way.number].target as usize;
-    let again = walk.reached[target];
-    walk.reached[target] = true;
-    walk.told[way.number] = true;
-    walk.count += 1;
-    walk.lines.push(Line::Step {
-        number: way.number,
-        again,
-        blanks: way.blanks,
-    })?;
-    Ok(!again)
-}
-
-/// Tells the other transitions with the source and the target of this one.
-fn tell_others(excerpt: &Excerpt<'_>, way: Way, walk: &mut Walk) -> Result<(), Memory>
-    requires ordered { IsInOrder excerpt.now }
-    requires within { way.number < length excerpt.now.transitions.now }
-    requires walk { (waiting : List Way) × (open_state : Option ℕ) × IsWalk (told_of excerpt.now) excerpt.now.most walk.old waiting open_state }
-    requires from { IsComeTo (told_of excerpt.now) walk.old.lines.items (arrow_at (told_of excerpt.now) way.number).source }
-    requires to { IsComeTo (told_of excerpt.now) walk.old.lines.items (arrow_at (told_of excerpt.now) way.number).target }
-    ensures { OnOk result (HasToldMore (told_of excerpt.now) excerpt.now.most walk.old walk.new) }
-{
-    let first = excerpt.transitions[way.number];
-    for number in way.number + 1..excerpt.transitions.len() {
-        if excerpt.transitions[number].source != first.source {
-            return Ok(());
+    };
+    let mut next = Some(Way {
+        from: None,
+        vertex: root,
+        blanks: 0,
+    });
+    while let Some(way) = next {
+        if walk.visits.len() >= most {
+            return Ok(walk.visits);
         }
-        let blanks = way.blanks;
-        tell_other(excerpt, first.target, Way { number, blanks }, walk)?;
+        next = step(game, evidence, way, &mut walk)?;
     }
-    Ok(())
+    Ok(walk.visits)
 }
 
-/// Tells a transition if it leads to this state, to which the walk has come, and may be told.
-fn tell_other(excerpt: &Excerpt<'_>, target: u32, way: Way, walk: &mut Walk) -> Result<(), Memory>
-    requires ordered { IsInOrder excerpt.now }
-    requires within { way.number < length excerpt.now.transitions.now }
-    requires walk { (waiting : List Way) × (open_state : Option ℕ) × IsWalk (told_of excerpt.now) excerpt.now.most walk.old waiting open_state }
-    requires from { IsComeTo (told_of excerpt.now) walk.old.lines.items (arrow_at (told_of excerpt.now) way.number).source }
-    requires to { IsComeTo (told_of excerpt.now) walk.old.lines.items target }
-    ensures { OnOk result (HasToldMore (told_of excerpt.now) excerpt.now.most walk.old walk.new) }
+/// Tells of the vertex to which a way leads. The answer is the way that is told of next, if one is.
+fn step(game: &Game, evidence: &Evidence, way: Way, walk: &mut Walk) -> Result<Option<Way>, Memory>
+    requires same { evidence.now.game ≡ game.now }
+    requires good { IsGood game.now evidence.now.evidence }
+    requires walk { (root : ℕ) × IsWalkBy game.now evidence.now.evidence root walk.old (Some way) }
+    ensures told { IfOk result (HasTold game.now evidence.now.evidence way walk.old walk.new) }
+    ensures end { IfOk result (λ next. next ≡ None → length walk.new.waiting.items ≡ 0) }
 {
-    if excerpt.transitions[way.number].target == target && may_tell(excerpt, way.number, walk) {
-        tell(excerpt, way, walk)?;
+    match tell(game, evidence, way, walk)? {
+        Some(next) => Ok(Some(next)),
+        None => Ok(walk.waiting.pop()),
     }
-    Ok(())
 }
 
-/// Lets the transitions from a state that is new wait, or tells that there are none.
-fn visit(excerpt: &Excerpt<'_>, state: u32, blanks: usize, walk: &mut Walk) -> Result<(), Memory>
-    requires ordered { IsInOrder excerpt.now }
-    requires walk { IsWalk (told_of excerpt.now) excerpt.now.most walk.old walk.old.waiting.items (Some state) }
-    ensures walk { OnOk result (IsWalk (told_of excerpt.now) excerpt.now.most walk.new walk.new.waiting.items None) }
-    ensures reached { OnOk result (walk.new.reached.items ≡ walk.old.reached.items) }
-    ensures few { OnOk result (length walk.new.waiting.items ≤ length walk.old.waiting.items + length excerpt.now.transitions.now) }
+/// Tells of the vertex to which a way leads. The answer is the only way on from there, if the play is told further and has one.
+fn tell(game: &Game, evidence: &Evidence, way: Way, walk: &mut Walk) -> Result<Option<Way>, Memory>
+    requires same { evidence.now.game ≡ game.now }
+    requires good { IsGood game.now evidence.now.evidence }
+    requires walk { (root : ℕ) × IsWalkBy game.now evidence.now.evidence root walk.old (Some way) }
+    ensures { IfOk result (HasTold game.now evidence.now.evidence way walk.old walk.new) }
 {
-    let block = block_from(excerpt.transitions, state);
-    if block.start == block.end {
-        walk.lines.push(Line::Stop { state, blanks })?;
-        Ok(())
+    evidence.known();
+    let told = is_marked(&walk.told, way.vertex);
+    match ways_from(game, evidence, way.vertex) {
+        Ways::One(next) if next < FIRST_PLACE => end(way, Kind::Sink, walk),
+        Ways::One(next) => {
+            if told {
+                end(way, met(way.vertex, walk), walk)
+            } else {
+                go_on(way, next, walk)
+            }
+        }
+        Ways::Many(targets) => {
+            if told {
+                end(way, met(way.vertex, walk), walk)
+            } else {
+                branch(way, targets, walk)
+            }
+        }
+    }
+}
+
+/// Whether a vertex is marked.
+fn is_marked(marks: &[bool], v: u32) -> bool
+    ensures { result ≡ is_marked_in marks.now v }
+{
+    marks.get(v as usize).copied().unwrap_or(false)
+}
+
+/// Where the play can go on from a vertex of the evidence.
+fn ways_from<'a>(game: &'a Game, evidence: &Evidence, u: u32) -> Ways<'a>
+    requires same { evidence.now.game ≡ game.now }
+    requires good { IsGood game.now evidence.now.evidence }
+    requires has { IsTrue (has_entry evidence.now.evidence u) }
+    ensures { AreWaysFrom game.now evidence.now.evidence u result }
+{
+    game.known();
+    evidence.known();
+    match evidence.get(u) {
+        Some(entry) => match entry.next {
+            Some(next) => Ways::One(next),
+            None => all_ways(game, u),
+        },
+        None => unreachable!(),
+    }
+}
+
+/// Where the play can go on from a vertex from which the evidence has no move.
+fn all_ways<'a>(game: &'a Game, u: u32) -> Ways<'a>
+    requires { u < length game.now.vertices }
+    ensures { (v : Vertex) → vertex game.now u ≡ Some v → AreAll v.successors result }
+{
+    let successors = game.successors(u);
+    if successors.len() == 1 {
+        Ways::One(successors[0])
     } else {
-        let ways = &excerpt.transitions[block.start..block.end];
-        let_wait(block, blanks_below(ways, blanks), &mut walk.waiting)?;
-        Ok(())
+        Ways::Many(successors)
     }
 }
 
-/// Lets the transitions of a block wait, the first of them last.
-fn let_wait(block: Block, blanks: usize, waiting: &mut Vec<Way>) -> Result<(), Memory>
-    requires { block.start ≤ block.end }
-    ensures { OnOk result (HasLetBlockWait waiting.old.items waiting.new.items block.end (block.end - block.start)) }
+/// Where the play goes on from a vertex, of which it was told further before.
+fn met(u: u32, walk: &Walk) -> Kind
+    requires told { IsTrue (is_marked_in walk.now.told.items u) }
+    ensures ends { is_told_further result ≡ false }
+    ensures kind { IsNextKind walk.now u result }
 {
-    for k in 0..block.end - block.start {
-        let number = block.end - 1 - k;
-        waiting.push(Way { number, blanks })?;
+    for i in walk.start..walk.visits.len() {
+        if walk.visits[i].way.vertex == u {
+            return Kind::Back(i);
+        }
+    }
+    Kind::Told
+}
+
+/// Tells that the play isn't told further from a vertex.
+fn end(way: Way, kind: Kind, walk: &mut Walk) -> Result<Option<Way>, Memory>
+    ensures none { IfOk result (λ next. next ≡ None) }
+    ensures added { IfOk result (λ _. HasAdded way kind walk.old walk.new walk.old.told.items (length walk.old.visits.items + 1)) }
+    ensures waiting { IfOk result (λ _. walk.new.waiting.items ≡ walk.old.waiting.items) }
+{
+    walk.visits.push(Visit { way, kind })?;
+    walk.start = walk.visits.len();
+    Ok(None)
+}
+
+/// Tells that the play has one way on from a vertex.
+fn go_on(way: Way, target: u32, walk: &mut Walk) -> Result<Option<Way>, Memory>
+    requires { way.vertex < length walk.old.told.items }
+    ensures next { IfOk result (λ next. next ≡ Some (way_on_by way way.blanks target)) }
+    ensures added { IfOk result (λ _. HasAdded way Kind.On walk.old walk.new (slice_set walk.old.told.items way.vertex true) walk.old.start) }
+    ensures waiting { IfOk result (λ _. walk.new.waiting.items ≡ walk.old.waiting.items) }
+{
+    walk.told[way.vertex as usize] = true;
+    let kind = Kind::On;
+    walk.visits.push(Visit { way, kind })?;
+    Ok(Some(Way {
+        from: Some(way.vertex),
+        vertex: target,
+        blanks: way.blanks,
+    }))
+}
+
+/// Tells that the play has several ways on from a vertex. They wait.
+fn branch(way: Way, targets: &[u32], walk: &mut Walk) -> Result<Option<Way>, Memory>
+    requires { way.vertex < length walk.old.told.items }
+    ensures none { IfOk result (λ next. next ≡ None) }
+    ensures added { IfOk result (λ _. HasAdded way Kind.Branch walk.old walk.new (slice_set walk.old.told.items way.vertex true) (length walk.old.visits.items + 1)) }
+    ensures waiting { IfOk result (λ _. HasLetWait way targets.now walk.old.waiting.items walk.new.waiting.items) }
+{
+    walk.told[way.vertex as usize] = true;
+    let kind = Kind::Branch;
+    walk.visits.push(Visit { way, kind })?;
+    walk.start = walk.visits.len();
+    let_wait(way, targets, &mut walk.waiting)?;
+    Ok(None)
+}
+
+/// Lets the ways to these vertices wait, the first of them last.
+fn let_wait(way: Way, targets: &[u32], waiting: &mut Vec<Way>) -> Result<(), Memory>
+    ensures { OnOk result (HasLetWait way targets.now waiting.old.items waiting.new.items) }
+{
+    let blanks = deeper(way.blanks);
+    for k in 0..targets.len() {
+        waiting.push(Way {
+            from: Some(way.vertex),
+            vertex: targets[targets.len() - 1 - k],
+            blanks,
+        })?;
     }
     Ok(())
 }
 
-/// How many blanks the lines of these transitions from one state begin with: two more where they lead to more than one.
-fn blanks_below(ways: &[Transition], blanks: usize) -> usize
-    requires { 0 < length ways.now }
+/// Two blanks more, or as many as a line begins with at most.
+fn deeper(blanks: usize) -> usize
+    ensures { result ≡ deeper_of blanks }
 {
-    let first = ways[0].target;
-    if ways.iter().any(|way| way.target != first) {
-        blanks.min(MOST_BLANKS - 2) + 2
+    if blanks < MOST_BLANKS {
+        blanks + 2
     } else {
         blanks
     }
-}
-
-/// The transitions from a state.
-fn block_from(transitions: &[Transition], state: u32) -> Block
-    requires { IsNonDecreasingBy (λ (t : Transition). t.source) transitions.now }
-    ensures { IsBlockOf transitions.now state result }
-{
-    Block {
-        start: first_from(transitions, state),
-        end: first_after(transitions, state),
-    }
-}
-
-/// The number of the first transition that doesn't begin below the state.
-fn first_from(transitions: &[Transition], state: u32) -> usize
-    requires { IsNonDecreasingBy (λ (t : Transition). t.source) transitions.now }
-    ensures within { result ≤ length transitions.now }
-    ensures below { (n : ℕ) (d : Transition) → n < result → (slice_index_or transitions.now n d).source < state }
-    ensures above { (n : ℕ) (d : Transition) → result ≤ n → n < length transitions.now → state ≤ (slice_index_or transitions.now n d).source }
-{
-    transitions.partition_point(|t| t.source < state)
-}
-
-/// The number of the first transition that begins above the state.
-fn first_after(transitions: &[Transition], state: u32) -> usize
-    requires { IsNonDecreasingBy (λ (t : Transition). t.source) transitions.now }
-    ensures within { result ≤ length transitions.now }
-    ensures below { (n : ℕ) (d : Transition) → n < result → (slice_index_or transitions.now n d).source ≤ state }
-    ensures above { (n : ℕ) (d : Transition) → result ≤ n → n < length transitions.now → state < (slice_index_or transitions.now n d).source }
-{
-    transitions.partition_point(|t| t.source <= state)
 }

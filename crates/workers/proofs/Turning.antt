@@ -1,17 +1,18 @@
 -- Turns, one after another.
 use Rattle.std.proofs.Common.{◌≡◌, ℕ, suc, ◌+◌, ◌<◌, ◌≤◌, List, [], ◌∷◌, ◌++◌, length, take, slice_index, slice_set, add-one, ap, append_assoc, arith, refl, subst, sym, ◌∙◌}
-use Rattle.std.proofs.Common.{inl, inr, min, zero, ◌*◌, mul-suc, mul-zero}
-use Rattle.std.specs.Int.{div_ceil}
-use Rattle.std.proofs.lemmas.Bool.Decides.{leb_tells}
+use Rattle.std.proofs.Common.{◌%◌, ◌==◌, eq-eqb, filter}
+use Rattle.std.specs.List.{range_with_len}
+use Rattle.std.proofs.lemmas.Bool.{ne_eqb}
 use Rattle.std.proofs.lemmas.List.{append-nil, length-take-le}
+use Rattle.std.proofs.lemmas.List.Elements.{filter-append}
 use Rattle.std.proofs.Math.Seq.{take-suc, take-suc-set}
 use Rattle.game.specs.Game.{Game}
 use Rattle.progress.specs.Measure.{Measure}
 use Rattle.tables.specs.Turns.{reads}
 use Rattle.tables.specs.declared.access.Access.{Access}
 use Rattle.tables.specs.declared.access.Access.TheVariants.{Read}
-use Rattle.tables.proofs.Reading.{reads_next}
-use Rattle.workers.specs.Turns.{AreTurns, IsWork, first_own}
+use Rattle.tables.proofs.Reading.{range_next, reads_next}
+use Rattle.workers.specs.Turns.{AreTurns, IsWork, own_vertices}
 
 -- one successor more is read, and its measure is noted
 pub reads_noted : (ts : List ℕ) (values : List Measure) (place : ℕ) (m : Measure) → place < length ts → length ts ≤ length values
@@ -66,21 +67,15 @@ turns_both g was_pending (v ∷ vs) us before after given jobs (first, rest, own
   turns_both g was_pending vs us rest after others jobs more are,
 )
 
-mul_suc_up : (n k : ℕ) → n ≤ n * suc k
-mul_suc_up n k = let e = mul-suc n k in omega (arith, e)
+module _ (v workers number : ℕ) where
+  parts : own_vertices (v + 1) workers number ≡ own_vertices v workers number ++ filter (λ u. u % workers == number) (v ∷ [])
+  parts = ap (filter (λ u. u % workers == number)) (range_next 0 v v (omega arith))
+      ∙ filter-append (λ u. u % workers == number) (range_with_len 0 v) (v ∷ [])
 
-capped : (vertices number share : ℕ) → vertices < 4294967296
-    → min (min number 18446744073709551615 * share) vertices ≡ min (number * share) vertices
-capped vertices number zero few = ap (λ (n : ℕ). min n vertices) (mul-zero (min number 18446744073709551615) ∙ sym (mul-zero number))
-capped vertices number (suc share) few =
-    let low = mul_suc_up (min number 18446744073709551615) share in
-    let high = mul_suc_up number share in
-    elim (leb_tells number 18446744073709551615) [
-      | inl w ↦ (let same : min number 18446744073709551615 ≡ number = let l = w.1 in omega arith in ap (λ (n : ℕ). min (n * suc share) vertices) same)
-      | inr w ↦ (let l = w.1 in omega (arith, few, low, high, l))
-    ]
+  -- one vertex more, which is the worker's own
+  pub own_more : v % workers ≡ number → own_vertices (v + 1) workers number ≡ own_vertices v workers number ++ v ∷ []
+  own_more e = parts ∙ rw (eq-eqb (v % workers) number e) refl
 
--- no worker's first vertex is past the greatest number that a machine has
-pub first_capped : (vertices workers number : ℕ) → vertices < 4294967296
-    → first_own vertices workers (min number 18446744073709551615) ≡ first_own vertices workers number
-first_capped vertices workers number few = capped vertices number (div_ceil vertices workers) few
+  -- one vertex more, which is another worker's
+  pub own_same : (v % workers ≡ number → ⊥) → own_vertices (v + 1) workers number ≡ own_vertices v workers number
+  own_same n = parts ∙ rw (ne_eqb (v % workers) number n) (append-nil (own_vertices v workers number))

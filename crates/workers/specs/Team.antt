@@ -1,6 +1,9 @@
 -- What can't be solved over the board that is asked for.
-use Rattle.std.specs.Prelude.{◌≤◌}
+use Rattle.std.specs.Prelude.{◌≤◌, Bool, List, Option, IfSome, length}
+use Rattle.std.specs.Borrow.{Bor}
+use Rattle.calculus.specs.Meaning.{MarksOf}
 use Rattle.game.specs.Game.{Game}
+use Rattle.game.specs.Wins.{Wins}
 use Rattle.progress.specs.Lifting.{height}
 use Rattle.progress.specs.declared.rank.TheConstants.{RANK_LIMIT}
 use Rattle.tables.specs.declared.error.TableError.TheVariants as table
@@ -25,3 +28,7 @@ IsMemory _ = ⊥
 abbrev pub IsTeamRefusal : BoardKind → Game → TeamError → Type 0
 IsTeamRefusal kind g (error.Board table.TooManyRanks) = IsTooGreat kind g
 IsTeamRefusal kind g e = IsMemory e × (IsTooGreat kind g → ⊥)
+
+-- Where marks are given, they are those of the vertices that Even wins.
+abbrev pub MayBeRaised : Game → Option (Bor (List Bool)) → Type 0
+MayBeRaised g won = IfSome won (λ marks. MarksOf (length g.vertices) marks.now (Wins g))

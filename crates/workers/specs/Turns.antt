@@ -1,6 +1,5 @@
 -- What workers do in their turns.
-use Rattle.std.specs.Prelude.{◌≡◌, ◌⊎◌, ◌++◌, ◌*◌, ◌%◌, ◌+◌, ◌-◌, ℕ, Bool, IsTrue, List, [], ◌∷◌, Contains, min}
-use Rattle.std.specs.Int.{div_ceil}
+use Rattle.std.specs.Prelude.{◌≡◌, ◌⊎◌, ◌++◌, ◌%◌, ◌-◌, ◌==◌, ℕ, Bool, IsTrue, List, [], ◌∷◌, Contains, filter}
 use Rattle.std.specs.List.{range_with_len}
 use Rattle.game.specs.Game.{Game}
 use Rattle.game.specs.Predecessors.{predecessors}
@@ -41,11 +40,6 @@ Done did gave P = (accesses : List Access) × (jobs : List ℕ) × did accesses 
 abbrev pub HasWorked : Game → (ℕ → Type 0) → List ℕ → (List Access → Type 0) → (List ℕ → Type 0) → Type 0
 HasWorked g was_pending own did gave = Done did gave (λ accesses jobs. (others : List ℕ) × AreTurns g was_pending (own ++ others) accesses jobs)
 
--- The first of a worker's own vertices: each worker has as many, but the last ones may have fewer.
-abbrev pub first_own : ℕ → ℕ → ℕ → ℕ
-first_own vertices workers number = min (number * div_ceil vertices workers) vertices
-
--- a worker's own vertices
-abbrev pub own_vertices : ℕ → ℕ → ℕ → List ℕ
-own_vertices vertices workers number =
-    range_with_len (first_own vertices workers number) (first_own vertices workers (number + 1) - first_own vertices workers number)
+-- a worker's own vertices, of so many: those whose number is the worker's modulo that of all workers
+abbrev pub own_vertices : (vertices workers number : ℕ) → List ℕ
+own_vertices vertices workers number = filter (λ v. v % workers == number) (range_with_len 0 vertices)

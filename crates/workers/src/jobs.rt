@@ -1,11 +1,14 @@
 // Deques of jobs, each job a vertex, which stands for the block that begins with it.
 
 ghost use Rattle.std.specs.Prelude.{◌≡◌, ◌<◌, ◌∷◌, [], false, IfOk, IfSome, IsTrue, length, vec_len};
+ghost use Rattle.std.specs.List.{AllByRecursion};
 ghost use Rattle.workers.specs.Jobs.{Gave, IsFilled};
 
 use crossbeam_deque::protocol::{Outcome, Protocol};
 use crossbeam_deque::{Steal, Stealer, Worker};
+use game::graph::Game;
 use game::name::GameName;
+use liftcore::turn::Turn;
 use std::alloc::{AllocError, Global};
 use std::collections::LinkedList;
 use std::marker::PhantomData;
@@ -124,19 +127,31 @@ pub(crate) fn find<K: GameName, R: Wait>(
     }
 }
 
-/// A deque for each worker, and a handle to each.
-pub(crate) fn deques<K: GameName>(
+/// What a worker has for itself: its deque, and memory for its turns.
+#[derive(Drop)]
+pub(crate) struct WorkerState<D> {
+    pub(crate) own: D,
+    pub(crate) turn: Turn,
+}
+
+/// What each worker has, and a handle to each deque.
+pub(crate) fn states<K: GameName>(
     alloc: Global,
+    game: &Game,
     workers: usize,
-) -> Result<(Vec<Own<K>>, Vec<Other<K>>), AllocError>
-    ensures { IfOk result (λ d. (vec_len d.0 ≡ workers) × (vec_len d.1 ≡ workers)) }
+) -> Result<(Vec<WorkerState<Own<K>>>, Vec<Other<K>>), AllocError>
+    ensures count { IfOk result (λ made. (vec_len made.0 ≡ workers) × (vec_len made.1 ≡ workers)) }
+    ensures turns { IfOk result (λ made. AllByRecursion (λ state. state.turn.game ≡ game.now) made.0.items) }
 {
-    let mut own = Vec::new(alloc);
+    let mut states = Vec::new(alloc);
     let mut others = Vec::new(alloc);
     for _ in 0..workers {
-        let deque = Own::<K>::fifo_as(alloc, FIRST_ROOM)?;
-        others.push(deque.stealer()?).map_err(AllocError::from)?;
-        own.push(deque).map_err(AllocError::from)?;
+        let own = Own::<K>::fifo_as(alloc, FIRST_ROOM)?;
+        others.push(own.stealer()?).map_err(AllocError::from)?;
+        let turn = Turn::new(alloc, game)?;
+        states
+            .push(WorkerState { own, turn })
+            .map_err(AllocError::from)?;
     }
-    Ok((own, others))
+    Ok((states, others))
 }

@@ -2,6 +2,7 @@
 
 ghost use Rattle.std.specs.Prelude.{◌≡◌, ◌<◌, ◌⊎◌, ℕ, IfOk, length, max};
 ghost use Rattle.std.specs.Arc.{arc_value};
+ghost use Rattle.std.specs.Fork.{AcceptsEach, ChangesEach};
 ghost use Rattle.progress.specs.Progress.{IsLeastTable};
 ghost use Rattle.workers.specs.Floor.{IsOneGame};
 ghost use Rattle.workers.specs.Jobs.{WasFilled};
@@ -10,62 +11,86 @@ ghost use Rattle.workers.specs.Turns.{HasWorked, own_vertices};
 use crate::error::SolveError;
 use crate::floor::Floor;
 use crate::gate::Gate;
-use crate::jobs::{Own, deques};
+use crate::jobs::{Own, WorkerState, states};
 use crate::marks::Marks;
 use crate::rest::Rest;
+use crate::watched::Watched;
 use crate::worker::work;
 use game::graph::Game;
 use game::name::GameName;
-use measures::settle::settle;
-use measures::table::{PlainTable, Settled, opening};
+use game::predecessors::Predecessors;
+use measures::observer::{Observer, Silent};
+use measures::settle::solve_one_from;
+use measures::table::{Settled, opening};
 use std::alloc::{AllocError, Global};
 use std::marker::Brand;
 use std::sync::{Arc, Wait};
 use std::thread;
 use std::thread::Threads;
-use tables::board::{Board, finish};
+use tables::board::Board;
+
+// Runs a worker's part for each of these, on a thread each.
+#[tactic(auto, using(crate::proofs::Sent::turn_send))]
+fn for_each_worker<D: Send, R: Threads + Sync, F: Fn(usize, &mut WorkerState<D>) + Sync>(
+    rt: &R,
+    states: &mut [WorkerState<D>],
+    workers: usize,
+    part: &F,
+)
+    requires workers { 0 < workers }
+    requires accepts { AcceptsEach F.Fn part.now states.old }
+    ensures { ChangesEach F.Fn part.now states.old states.new }
+{
+    thread::for_each_mut(rt, states, workers, part);
+}
 
 // Runs the workers over the board, and returns when all of them have ended. Where memory is refused none begins.
-fn run<K: GameName + Send + Sync, B: Board + Sync, G: Gate + Sync, R: Threads + Wait + Sync>(
+fn run<
+    K: GameName + Send + Sync,
+    B: Board + Sync,
+    G: Gate + Sync,
+    O: Observer + Sync,
+    R: Threads + Wait + Sync,
+>(
     rt: &R,
     alloc: Global,
     game: &Game,
-    first: &PlainTable,
+    predecessors: &Predecessors,
     board: &B,
     workers: usize,
-    gate: &G,
+    watched: &Watched<'_, G, O>,
 ) -> Result<(), AllocError>
-    requires one { IsOneGame K.game game.now (B.game board.now) first.now.game }
+    requires one { IsOneGame K.game game.now (B.game board.now) predecessors.now }
     requires workers { 0 < workers }
-    ensures { IfOk result (λ _. (number : ℕ) → number < workers → (B.is_full board.now ⊎ (B.is_read board.now ⊎ WasFilled K))
+    ensures { IfOk result (λ _. (number : ℕ) → number < workers → (B.is_full board.now ⊎ WasFilled K)
         ⊎ ((first last : B.Seat) × HasWorked K.game (λ v. Unit {0}) (own_vertices (length K.game.vertices) workers number)
         (B.did board.now first last) (λ jobs. Unit {0}))) }
 {
-    let (mut own, others) = deques::<K>(alloc, workers)?;
+    let (mut states, others) = states::<K>(alloc, game, workers)?;
     let pending = Marks::new(alloc, game.vertices())?;
     let (others, marks, rest) = (others.as_slice(), &pending, &Rest::new(workers));
-    thread::for_each_mut(
+    for_each_worker(
         rt,
-        own.as_mut_slice(),
+        states.as_mut_slice(),
         workers,
-        &|number: usize, own: &mut Own<K>|
-            requires { IsOneGame K.game game.now (B.game board.now) first.now.game }
-            ensures { (B.is_full board.entry.now ⊎ (B.is_read board.entry.now ⊎ WasFilled K))
+        &|number: usize, state: &mut WorkerState<Own<K>>|
+            requires one { IsOneGame K.game game.now (B.game board.now) predecessors.now }
+            requires turn { state.now.turn.game ≡ K.game }
+            ensures { (B.is_full board.entry.now ⊎ WasFilled K)
                 ⊎ ((first last : B.Seat)
                 × HasWorked K.game (λ v. Unit {0}) (own_vertices (length K.game.vertices) (max (length others.entry.now) 1) number)
                 (B.did board.entry.now first last) (λ jobs. Unit {0})) }
         {
             let floor = Floor {
-                alloc,
                 game,
-                first,
+                predecessors,
                 board,
-                gate,
+                watched,
                 others,
                 marks,
                 rest,
             };
-            work(rt, &floor, number, own)
+            work(rt, &floor, number, state)
         },
     );
     Ok(())
@@ -90,28 +115,35 @@ pub fn solve<B: Board + Drop + Sync, G: Gate + Sync, R: Threads + Wait + Sync>(
     ensures game { IfOk result (λ s. s.game ≡ arc_value game.now) }
     ensures least { IfOk result (λ s. IsLeastTable (arc_value game.now) s.values) }
 {
-    let table = opening(alloc, game)?;
-    Ok(solve_from(rt, alloc, game, table, board, workers, gate))
+    let watched = Watched::new(gate, &Silent, game.vertices());
+    solve_watched(rt, alloc, game, board, workers, &watched)
 }
 
-/// The least progress table of a game, after so many workers lifted over a board what this table of the game leaves to be lifted.
-pub fn solve_from<B: Board + Drop + Sync, G: Gate + Sync, R: Threads + Wait + Sync>(
+/// The least progress table of a game, after so many workers lifted over a board, of whose turns is told.
+///
+/// # Errors
+/// V1 where memory for the table is refused.
+pub(crate) fn solve_watched<
+    B: Board + Drop + Sync,
+    G: Gate + Sync,
+    O: Observer + Sync,
+    R: Threads + Wait + Sync,
+>(
     rt: &R,
     alloc: Global,
     game: &Arc<Game, Global>,
-    mut table: PlainTable,
     board: B,
     workers: usize,
-    gate: &G,
-) -> Settled
+    watched: &Watched<'_, G, O>,
+) -> Result<Settled, SolveError>
     requires game { B.game board ≡ arc_value game.now }
-    requires table { table.game ≡ arc_value game.now }
     requires workers { 0 < workers }
-    ensures game { result.game ≡ arc_value game.now }
-    ensures least { IsLeastTable (arc_value game.now) result.values }
+    ensures game { IfOk result (λ s. s.game ≡ arc_value game.now) }
+    ensures least { IfOk result (λ s. IsLeastTable (arc_value game.now) s.values) }
 {
-    let _ = run::<Brand, B, G, R>(rt, alloc, game, &table, &board, workers, gate);
-    finish(&board, game, &mut table);
-    settle(game, &mut table);
-    table.into_settled()
+    let mut table = opening(alloc, game)?;
+    let predecessors = table.predecessors();
+    let _ = run::<Brand, B, G, O, R>(rt, alloc, game, predecessors, &board, workers, watched);
+    board.finish(&mut table);
+    Ok(solve_one_from(game, table))
 }

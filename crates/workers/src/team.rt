@@ -1,26 +1,32 @@
 // Solving over the board that is asked for.
 
-ghost use Rattle.std.specs.Prelude.{◌≡◌, ◌<◌, IfErr, IfOk, IsTrue, MatchResult};
+ghost use Rattle.std.specs.Prelude.{◌≡◌, ◌<◌, ◌↔◌, IfErr, IfOk, IfSome, IsTrue, MatchResult, false, length};
 ghost use Rattle.std.specs.Arc.{arc_value};
+ghost use Rattle.calculus.specs.Meaning.{MarksOf};
+ghost use Rattle.game.specs.Game.{Game};
+ghost use Rattle.game.specs.Wins.{Wins};
 ghost use Rattle.progress.specs.Lifting.{height};
 ghost use Rattle.progress.specs.Progress.{IsLeastTable};
 ghost use Rattle.progress.specs.declared.rank.TheConstants.{RANK_LIMIT};
-ghost use Rattle.workers.specs.Team.{IsMemory, IsTeamRefusal, IsTooGreat};
+ghost use Rattle.workers.specs.Team.{IsMemory, IsTeamRefusal, IsTooGreat, MayBeRaised};
 
 use crate::error::TeamError;
 use crate::gate::Gate;
-use crate::locked::solve_locked;
-use crate::solving::solve_from;
-use crate::watch::Watched;
+use crate::solving::solve_watched;
+use crate::watched::Watched;
 use game::graph::Game;
-use measures::observer::{Observer, Stage};
+use game::name::GameName;
+use measures::measure::Measure;
+use measures::observer::Observer;
 use measures::rank::top_rank;
-use measures::settle::solve_one_from;
-use measures::table::{PlainTable, Settled};
+use measures::table::Settled;
 use std::alloc::Global;
+use std::marker::Brand;
 use std::sync::{Arc, Wait};
 use std::thread::Threads;
+use tables::board::Board;
 use tables::error::TableError;
+use tables::locked::LockedBoard;
 use tables::packed::PackedBoard;
 
 /// Which board the workers share.
@@ -34,6 +40,21 @@ pub enum BoardKind {
     Packed,
 }
 
+impl BoardKind {
+    ghost use Rattle.workers.specs.declared.team.BoardKind.TheVariants as kind;
+
+    /// Whether it is named, so that workers lift over it from the opening table on. One that isn't named is never refused.
+    pub fn is_named(self) -> bool
+        ensures auto { (result ≡ false) ↔ (self ≡ kind.Auto) }
+        ensures fits { result ≡ false → (g : Game) → IsTooGreat self g → ⊥ }
+    {
+        match self {
+            BoardKind::Auto => false,
+            BoardKind::Locked | BoardKind::Packed => true,
+        }
+    }
+}
+
 /// How many workers lift, over which board.
 #[derive(Clone, Copy)]
 pub struct Team {
@@ -44,11 +65,13 @@ pub struct Team {
     pub ghost some_shards: { 0 < shards },
 }
 
-/// The least progress table of a game, which a team lifts from this table of the game on. An observer is told that lifting begins, and then of every
-/// 4,096th lift of a worker. One worker alone needs no board, no gate, and no thread beside the caller's.
+/// The least progress table of a game, which a team lifts from the opening table on, or from one with top at each vertex that isn't won,
+/// where it is told which are won. A gate is called before each turn. An observer is told that lifting begins, of every 4,096th turn of a
+/// worker, and of each worker's turns when it ends.
 ///
 /// # Errors
-/// T1 where the packed board is asked for and the rank of top doesn't fit a word, and only there. T2 where memory for the board is refused.
+/// T1 where the packed board is asked for and the rank of top doesn't fit a word, and only there. T2 where memory for the board is refused,
+/// V1 where it is refused for the table.
 pub fn solve_by<
     G: Gate + Sync,
     O: Observer + Sync,
@@ -60,82 +83,106 @@ pub fn solve_by<
     team: &Team,
     gate: &G,
     observer: &O,
-    table: PlainTable,
+    won: Option<&[bool]>,
 ) -> Result<Settled, TeamError>
-    requires { table.game ≡ arc_value game.now }
+    requires { MayBeRaised (arc_value game.now) won }
     ensures game { IfOk result (λ s. s.game ≡ arc_value game.now) }
     ensures least { IfOk result (λ s. IsLeastTable (arc_value game.now) s.values) }
     ensures refused { MatchResult result (λ s. IsTooGreat team.now.board (arc_value game.now) → ⊥) (IsTeamRefusal team.now.board (arc_value game.now)) }
 {
-    match fits_words(game, team.board) {
-        Ok(_) if team.workers == 1 => Ok(solve_one_from(game, table, observer)),
-        Ok(fits) => {
-            let vertices = game.vertices();
-            observer.sees(Stage::Lifting { vertices, lifts: 0 });
-            let watched = Watched::new(gate, observer, vertices);
-            solve_together(rt, alloc, game, team, fits, table, &watched)
-        }
-        Err(error) => Err(error),
-    }
-}
-
-/// Whether ranks fit a word, so that the board can be packed.
-///
-/// # Errors
-/// T1 where they don't and the packed board is asked for, and only there.
-pub fn fits_words(game: &Game, board: BoardKind) -> Result<bool, TeamError>
-    ensures fits { IfOk result (λ fits. IsTrue fits → height game.now < RANK_LIMIT) }
-    ensures board { IfOk result (λ fits. IsTooGreat board game.now → ⊥) }
-    ensures refused { IfErr result (IsTeamRefusal board game.now) }
-{
     let fits = top_rank(game).is_some();
-    if board == BoardKind::Packed && !fits {
+    if team.board == BoardKind::Packed && !fits {
         return Err(TeamError::Board(TableError::TooManyRanks));
     }
-    Ok(fits)
+    let watched = Watched::new(gate, observer, game.vertices());
+    if team.board == BoardKind::Locked || !fits {
+        solve_locked::<Brand, G, O, R>(rt, alloc, game, team, won, &watched)
+    } else {
+        solve_packed(rt, alloc, game, team, won, &watched)
+    }
 }
 
-// By workers over the board.
-fn solve_together<G: Gate + Sync, R: Threads + Wait + Clone + Copy + Drop + Send + Sync>(
+// By workers over shards of the game that K names.
+fn solve_locked<
+    K: GameName + Send + Sync,
+    G: Gate + Sync,
+    O: Observer + Sync,
+    R: Threads + Wait + Clone + Copy + Drop + Send + Sync,
+>(
     rt: &R,
     alloc: Global,
     game: &Arc<Game, Global>,
     team: &Team,
-    fits: bool,
-    table: PlainTable,
-    gate: &G,
+    won: Option<&[bool]>,
+    watched: &Watched<'_, G, O>,
 ) -> Result<Settled, TeamError>
-    requires table { table.game ≡ arc_value game.now }
-    requires fits { IsTrue fits → height (arc_value game.now) < RANK_LIMIT }
+    requires named { arc_value game.now ≡ K.game }
+    requires won { MayBeRaised (arc_value game.now) won }
     ensures game { IfOk result (λ s. s.game ≡ arc_value game.now) }
     ensures least { IfOk result (λ s. IsLeastTable (arc_value game.now) s.values) }
     ensures refused { IfErr result IsMemory }
 {
-    let workers = team.workers as usize;
-    if team.board == BoardKind::Locked || !fits {
-        solve_locked(rt, alloc, game, table, team.shards, workers, gate)
-    } else {
-        solve_packed(rt, alloc, game, table, workers, gate)
-    }
+    let own = Arc::try_clone(game).map_err(TableError::from)?;
+    let board = LockedBoard::<K, R>::new(*rt, alloc, own, team.shards)?;
+    solve_over(rt, alloc, game, board, team, won, watched)
 }
 
 // By workers over one word for each vertex.
-fn solve_packed<G: Gate + Sync, R: Threads + Wait + Sync>(
+fn solve_packed<G: Gate + Sync, O: Observer + Sync, R: Threads + Wait + Sync>(
     rt: &R,
     alloc: Global,
     game: &Arc<Game, Global>,
-    table: PlainTable,
-    workers: usize,
-    gate: &G,
+    team: &Team,
+    won: Option<&[bool]>,
+    watched: &Watched<'_, G, O>,
 ) -> Result<Settled, TeamError>
-    requires table { table.game ≡ arc_value game.now }
     requires few { height (arc_value game.now) < RANK_LIMIT }
-    requires workers { 0 < workers }
+    requires won { MayBeRaised (arc_value game.now) won }
     ensures game { IfOk result (λ s. s.game ≡ arc_value game.now) }
     ensures least { IfOk result (λ s. IsLeastTable (arc_value game.now) s.values) }
     ensures refused { IfErr result IsMemory }
 {
     let own = Arc::try_clone(game).map_err(TableError::from)?;
     let board = PackedBoard::new(alloc, own, 1)?;
-    Ok(solve_from(rt, alloc, game, table, board, workers, gate))
+    solve_over(rt, alloc, game, board, team, won, watched)
+}
+
+// By workers over a board, on which each vertex that isn't won is raised to top first.
+fn solve_over<B: Board + Drop + Sync, G: Gate + Sync, O: Observer + Sync, R: Threads + Wait + Sync>(
+    rt: &R,
+    alloc: Global,
+    game: &Arc<Game, Global>,
+    board: B,
+    team: &Team,
+    won: Option<&[bool]>,
+    watched: &Watched<'_, G, O>,
+) -> Result<Settled, TeamError>
+    requires board { B.game board ≡ arc_value game.now }
+    requires won { MayBeRaised (arc_value game.now) won }
+    ensures game { IfOk result (λ s. s.game ≡ arc_value game.now) }
+    ensures least { IfOk result (λ s. IsLeastTable (arc_value game.now) s.values) }
+    ensures refused { IfErr result IsMemory }
+{
+    if let Some(won) = won {
+        raise_lost(game, &board, won);
+    }
+    let workers = team.workers as usize;
+    Ok(solve_watched(rt, alloc, game, board, workers, watched)?)
+}
+
+// Raises each vertex without a mark to top. Where the board has no seat nothing is raised.
+#[tactic(auto, using(progress::proofs::Lost::lost_below))]
+fn raise_lost<B: Board>(game: &Game, board: &B, won: &[bool])
+    requires board { B.game board.now ≡ game.now }
+    requires won { MarksOf (length game.now.vertices) won.now (Wins game.now) }
+{
+    game.known();
+    let Ok(mut seat) = board.seat() else {
+        return;
+    };
+    for v in 0..game.vertices() {
+        if !won[v as usize] {
+            board.raise(&mut seat, v, &Measure::top());
+        }
+    }
 }

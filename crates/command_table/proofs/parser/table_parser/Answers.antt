@@ -9,5 +9,6 @@ returns c =
     let formulas = adds_rule_if_ok _ _ _ _ _ c.with_arg-parser-2.ensures c.files.ensures system in
     let plain = adds_rule_if_ok _ _ _ _ _ c.with_arg-parser-3.ensures c.flag.ensures formulas in
     let strict = adds_rule_if_ok _ _ _ _ _ c.with_arg-parser-4.ensures c.flag-2.ensures plain in
-    let rule = adds_rule_if_ok _ _ _ _ _ c.with_arg-parser-5.ensures c.rule.ensures strict in
+    let stats = adds_rule_if_ok _ _ _ _ _ c.with_arg-parser-5.ensures c.flag-3.ensures strict in
+    let rule = adds_rule_if_ok _ _ _ _ _ c.with_arg-parser-6.ensures c.rule.ensures stats in
     adds_rules_if_ok _ _ _ (lifting_rules c.args.boards) c.with_workers.ensures rule

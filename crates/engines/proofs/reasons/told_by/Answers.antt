@@ -1,9 +1,8 @@
-use Rattle.std.proofs.Common.{ap, ◌∙◌}
-use Rattle.calculus.specs.Closed.{closed_formula}
-use Rattle.forms.specs.Rules.{nodes_with}
-use Rattle.requests.specs.declared.texts.Texts.{Texts}
+use Rattle.engines.proofs.Winning.{told_at}
 use Rattle.engines.proofs.reasons.told_by.Goals as goal
 
-pub told_with-requires-clause-nodes : goal.told_with-requires-clause-nodes
-told_with-requires-clause-nodes c =
-    c.in-Ok.ensures.nodes ∙ ap (λ (t : Texts). nodes_with c.args.found.now.solution.priorities (closed_formula t.formula)) c.deref.ensures
+pub returns-in-Ok-tell_by-clause-told : goal.returns-in-Ok-tell_by-clause-told
+returns-in-Ok-tell_by-clause-told c =
+    told_at c.args.found.now c.args.evidence.now c.deref-in-Ok-2.result.now c.deref.result.now c.deref-in-Ok.result.now _ c.in-Ok-tell_by.told
+    c.requires.found c.requires.winning c.known.ensures c.deref-in-Ok-2.ensures c.deref.ensures c.deref-in-Ok.ensures c.in-Ok.ensures.nodes
+    c.in-Ok-tell_by.ensures

@@ -3,7 +3,7 @@ use Rattle.progress.proofs.Settling.{Swept}
 use Rattle.progress.proofs.settle.sweep.Given as goal
 
 abbrev pub invariant-loop-v : goal.invariant-loop-v
-invariant-loop-v g l = record {
+invariant-loop-v l = record {
   game : l.table.game ≡ l.game;
   swept : Swept l.game l.v l.fn.table.values l.table.values l.rose;
 }

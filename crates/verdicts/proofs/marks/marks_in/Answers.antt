@@ -3,9 +3,6 @@ use Rattle.calculus.specs.Closed.{closed_formula}
 use Rattle.verdicts.proofs.Beyond.{marks_or_memory}
 use Rattle.verdicts.proofs.marks.marks_in.Goals as goal
 
-pub state_marks-requires-clause-winners : goal.state_marks-requires-clause-winners
-state_marks-requires-clause-winners g c = c.winners.ensures (arc_value c.args.game.now) c.in-Ok.ensures.solution
-
 pub returns-in-Ok : goal.returns-in-Ok
 returns-in-Ok g c =
     let options = c.args.options.now in

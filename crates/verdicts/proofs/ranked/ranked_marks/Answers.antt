@@ -1,4 +1,3 @@
-use Rattle.std.proofs.Common.{◌∙◌, sym, true≢false}
 use Rattle.calculus.specs.Closed.{closed_formula}
 use Rattle.forms.specs.Normal.{normal_nodes}
 use Rattle.verdicts.proofs.Ranking.{ranked_by}
@@ -8,5 +7,5 @@ pub returns-in-Ok : goal.returns-in-Ok
 returns-in-Ok g c =
     ranked_by c.args.options.now.priorities c.args.options.now.board c.args.system.now.system (closed_formula c.args.formula.now) (normal_nodes c.in-Ok.form)
     c.ranked_winners.result c.chosen_is_admissible.ensures c.even_wins_where_meant.ensures.root c.states-states.ensures.known c.args.formula.now.admitted
-    (λ p. true≢false (sym (c.is_packed.ensures.1 p) ∙ c.if-is_packed.false)) c.in-Ok.ensures.count c.in-Ok.ensures.low c.in-Ok.ensures.nodes
+    (c.is_named.ensures.fits c.if-is_named.false) c.in-Ok.ensures.count c.in-Ok.ensures.low c.in-Ok.ensures.nodes
     c.ranked_winners.ensures.few c.ranked_winners.ensures.wins

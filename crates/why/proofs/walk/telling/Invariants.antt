@@ -1,9 +1,12 @@
-use Rattle.std.proofs.Common.{length, None}
-use Rattle.why.specs.Walk.{IsWalk, steps_left, told_of}
+use Rattle.std.proofs.Common.{◌≡◌, None, length}
+use Rattle.why.specs.Walk.{IsWalkBy, left}
 use Rattle.why.proofs.walk.telling.Given as goal
 
-abbrev pub invariant-loop-way : goal.invariant-loop-way
-invariant-loop-way l = IsWalk (told_of l.excerpt) l.excerpt.most l.walk l.walk.waiting.items None
+abbrev pub invariant-loop-next : goal.invariant-loop-next
+invariant-loop-next l = record {
+  walk : IsWalkBy l.game l.evidence.evidence l.root l.walk l.next;
+  end : l.next ≡ None → length l.walk.waiting.items ≡ 0;
+}
 
-abbrev pub decreases-loop-way : goal.decreases-loop-way
-decreases-loop-way l = steps_left l.walk l.walk.waiting.items (length l.excerpt.transitions.now)
+abbrev pub decreases-loop-next : goal.decreases-loop-next
+decreases-loop-next l = left (length l.game.vertices) l.walk l.next

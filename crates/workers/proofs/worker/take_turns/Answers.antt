@@ -9,7 +9,7 @@ use Rattle.workers.proofs.worker.take_turns.Goals as goal
 pub loop-init : goal.loop-init
 loop-init g c =
     let game = g.K.GameName.game in
-    let own = own_vertices (length game.vertices) (max (length c.args.floor.now.others.now) 1) c.args.number in record {
+    let own = own_vertices (length game.vertices) (max (length c.args.floor.now.others.now) 1) c.args.tally.now.worker in record {
       seat = c.first_turns-able.ensures.seat;
       turn = c.first_turns-able.ensures.turn;
       worked = λ yes.
@@ -30,7 +30,7 @@ pub loop-preserved : goal.loop-preserved
 loop-preserved g c =
     let game = g.K.GameName.game in
     let was_pending = g.M.Pending.was_pending c.args.floor.now.marks.now in
-    let own = own_vertices (length game.vertices) (max (length c.args.floor.now.others.now) 1) c.args.number in
+    let own = own_vertices (length game.vertices) (max (length c.args.floor.now.others.now) 1) c.args.tally.now.worker in
     let was = c.loop.invariant.worked c.if-not-able.false in record {
       seat = c.block_turns-able.ensures.seat;
       turn = c.block_turns-able.ensures.turn;
@@ -47,10 +47,8 @@ loop-preserved g c =
                   (turns_both game was_pending (own ++ was.4.0) now.4.0 was.0 now.0 was.1 now.1 was.4.1 now.4.1),
             ),
           );
-      stopped = λ no. elim (c.block_turns-able.ensures.stopped no) [
-        | inl w ↦ inl w
-        | inr w ↦ inr (let room = was.3.1 in let kept = c.next_job.ensures.kept.1 in omega (arith, w, room, kept))
-      ];
+      stopped = λ no.
+          let filled = c.block_turns-able.ensures.stopped no in let room = was.3.1 in let kept = c.next_job.ensures.kept.1 in omega (arith, filled, room, kept);
     }
 
 pub returns-then-not-able-clause-turned : goal.returns-then-not-able-clause-turned

@@ -1,6 +1,0 @@
-use Rattle.calculus.specs.Meaning.{MarksOf}
-use Rattle.game.specs.Wins.{Wins}
-use Rattle.commands.proofs.winner_text.marks_of.Given as goal
-
-abbrev pub invariant-loop-v : goal.invariant-loop-v
-invariant-loop-v l = MarksOf l.v l.marks.items (Wins l.game)

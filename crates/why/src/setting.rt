@@ -1,0 +1,173 @@
+// What a telling is written with.
+
+ghost use Rattle.std.specs.Prelude.{◌≡◌, ◌≤◌, ◌++◌, IfOk, length, map};
+ghost use Rattle.text.specs.Wrote.{Wrote};
+ghost use Rattle.calculus.specs.Canon.{action_text};
+ghost use Rattle.calculus.specs.View.{action_of};
+ghost use Rattle.forms.specs.Normal.{normal_nodes};
+ghost use Rattle.forms.specs.View.{shape_of};
+ghost use Rattle.why.specs.Telling.{goes_on as is_told_further};
+ghost use Rattle.why.specs.Story.{has_branch as has_branch_of, is_branch as is_branch_of, lines_of as lines_of_visit, verdict_text};
+ghost use Rattle.why.specs.Story.{AreHeads, HasMarked, IsCut, cut as cut_of, modality_of, modality_text as modality_text_of};
+
+use crate::visit::{Kind, MOST_COLUMNS, Visit};
+use crate::writer::action_at;
+use calculus::put_action;
+use calculus::tree::Act;
+use forms::form::Normal;
+use forms::node;
+use std::alloc::Global;
+use text::sink::Sink;
+use text::{Memory, WriteFault, put};
+
+/// The text of each node's modality, and nothing of a node that has none.
+pub fn modality_texts(alloc: Global, normal: &Normal) -> Result<Vec<Vec<u8>>, Memory>
+    ensures { IfOk result (λ texts. map (λ text. text.items) texts.items ≡ map modality_of (normal_nodes normal.now)) }
+{
+    let mut texts = Vec::new(alloc);
+    for node in normal.nodes() {
+        texts.push(cut(modality_text(alloc, &node.kind)?)?)?;
+    }
+    Ok(texts)
+}
+
+/// A text, cut where it is longer than is told of one.
+fn cut(text: Vec<u8>) -> Result<Vec<u8>, Memory>
+    ensures { IfOk result (λ cut. cut.items ≡ cut_of text.items) }
+{
+    let mut text = text;
+    if text.len() > MOST_COLUMNS {
+        text.truncate(MOST_COLUMNS);
+        text.extend_from_slice(b"..")?;
+    }
+    Ok(text)
+}
+
+fn modality_text(alloc: Global, kind: &node::Kind) -> Result<Vec<u8>, Memory>
+    ensures { IfOk result (λ text. text.items ≡ modality_text_of (shape_of kind.now)) }
+{
+    let mut text = Vec::new(alloc);
+    // A vector refuses what there is no memory for, and nothing else.
+    match put_modality(kind, &mut text) {
+        Ok(()) => Ok(text),
+        Err(WriteFault) => Err(Memory),
+    }
+}
+
+/// Writes a modality without what stands behind it.
+fn put_modality<W: Sink>(kind: &node::Kind, out: &mut W) -> Result<(), WriteFault>
+    ensures { Wrote (W.taken out.old) (W.taken out.new) result (modality_text_of (shape_of kind.now)) }
+{
+    match kind {
+        node::Kind::Dia(action, _) => put_between(b"<", action, b">", out),
+        node::Kind::Box(action, _) => put_between(b"[", action, b"]", out),
+        _ => Ok(()),
+    }
+}
+
+/// Writes an action formula between two texts.
+pub(crate) fn put_between<W: Sink>(
+    opening: &[u8],
+    action: &Act,
+    closing: &[u8],
+    out: &mut W,
+) -> Result<(), WriteFault>
+    ensures { Wrote (W.taken out.old) (W.taken out.new) result (opening.now ++ (action_text (action_of action.now) ++ closing.now)) }
+{
+    put(out, opening)?;
+    put_action(action, out)?;
+    put(out, closing)
+}
+
+/// A mark for each visit, true where a run comes back to it.
+pub fn heads(alloc: Global, visits: &[Visit]) -> Result<Vec<bool>, Memory>
+    ensures { IfOk result (λ heads. AreHeads visits.now heads.items) }
+{
+    let mut heads = vec![in alloc; false; visits.len()]?;
+    for visit in visits {
+        mark_head(visit.kind, &mut heads);
+    }
+    Ok(heads)
+}
+
+/// Marks the visit to which a run comes back, where it does.
+fn mark_head(kind: Kind, heads: &mut Vec<bool>)
+    ensures long { length heads.new.items ≡ length heads.old.items }
+    ensures marks { HasMarked kind heads.old.items heads.new.items }
+{
+    if let Kind::Back(i) = kind {
+        if i < heads.len() {
+            heads[i] = true;
+        }
+    }
+}
+
+/// How many of the first visits have so many lines, or how many there are where the limit is 0.
+pub fn told_within(normal: &Normal, visits: &[Visit], heads: &[bool], limit: u32) -> usize
+    ensures { IsCut (normal_nodes normal.now) visits.now heads.now limit result }
+{
+    if limit == 0 {
+        return visits.len();
+    }
+    let mut lines = 0;
+    for i in 0..visits.len() {
+        if lines >= u64::from(limit) {
+            return i;
+        }
+        let head = heads.get(i).copied().unwrap_or(false);
+        lines += lines_of(normal, visits.get(i).copied(), head);
+    }
+    visits.len()
+}
+
+/// How many lines a visit has.
+fn lines_of(normal: &Normal, visit: Option<Visit>, head: bool) -> u64
+    ensures count { result ≡ lines_of_visit (normal_nodes normal.now) head visit }
+    ensures few { result ≤ 3 }
+{
+    let Some(visit) = visit else {
+        return 0;
+    };
+    let is_step = match visit.way.from {
+        Some(from) => action_at(normal, from).is_some(),
+        None => false,
+    };
+    u64::from(is_step) + u64::from(head) + u64::from(!goes_on(visit.kind))
+}
+
+/// Whether the play is told further from a visit of this kind.
+fn goes_on(kind: Kind) -> bool
+    ensures { result ≡ is_told_further kind }
+{
+    matches!(kind, Kind::On | Kind::Branch)
+}
+
+/// Whether some run branches.
+pub fn has_branch(visits: &[Visit]) -> bool
+    ensures { result ≡ has_branch_of visits.now }
+{
+    for visit in visits {
+        if is_branch(visit.kind) {
+            return true;
+        }
+    }
+    false
+}
+
+fn is_branch(kind: Kind) -> bool
+    ensures { result ≡ is_branch_of kind }
+{
+    kind == Kind::Branch
+}
+
+/// Whether the initial state satisfies the formula, and whether one run shows it or several do.
+pub fn verdict(answer: bool, several: bool) -> &'static [u8]
+    ensures { result.now ≡ verdict_text answer several }
+{
+    match (answer, several) {
+        (true, true) => b"initial yes: these runs show it",
+        (true, false) => b"initial yes: this run shows it",
+        (false, true) => b"initial no: these runs break it",
+        (false, false) => b"initial no: this run breaks it",
+    }
+}

@@ -1,0 +1,37 @@
+// What is told of a play.
+
+/// How many blanks a line begins with at most.
+pub const MOST_BLANKS: usize = 80;
+
+/// How many columns of a modality are told at most.
+pub const MOST_COLUMNS: usize = 80;
+
+/// A way on which a play comes to a vertex: from another one, or as it begins. Its line begins with so many blanks.
+#[derive(Clone, Copy, Debug, PartialEq, Eq)]
+pub struct Way {
+    pub from: Option<u32>,
+    pub vertex: u32,
+    pub blanks: usize,
+}
+
+/// How the play goes on from a vertex to which it has come.
+#[derive(Clone, Copy, Debug, PartialEq, Eq)]
+pub enum Kind {
+    /// One way: the next visit tells of it.
+    On,
+    /// In several ways, of which the loser chooses: for each a run begins, two blanks further in.
+    Branch,
+    /// Only to a sink.
+    Sink,
+    /// As from the visit of this number, which is one of the same run.
+    Back(usize),
+    /// As it was told in another run.
+    Told,
+}
+
+/// A vertex to which a play comes. A run is what is told from one that ends to the next: each of its visits but the last has one way on.
+#[derive(Clone, Copy, Debug, PartialEq, Eq)]
+pub struct Visit {
+    pub way: Way,
+    pub kind: Kind,
+}

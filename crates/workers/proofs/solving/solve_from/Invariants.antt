@@ -1,4 +1,0 @@
-use Rattle.workers.proofs.solving.solve_from.Given as goal
-
-abbrev pub ghosts-run : goal.ghosts-run
-ghosts-run g a = record { game = a.game.now }
