@@ -3,7 +3,7 @@
 use crate::arena::Arena;
 use crate::fields::{Fields, MARK, PRIORITIES};
 use crate::search::Search;
-use columns::column::{Column, Columns, Counted, Halves};
+use columns::column::{Column, Columns, Marked};
 use forms::form::Normal;
 use lists::list::List;
 use std::alloc::Global;
@@ -21,11 +21,9 @@ pub struct GuessedRanking {
     pub odd_shifts: Vec<u32>,
 }
 
-// A place of no list.
-const NOWHERE: u32 = u32::MAX;
-
+// A place among lists, or one past all of them.
 fn place(number: usize) -> u32 {
-    u32::try_from(number).unwrap_or(NOWHERE)
+    u32::try_from(number).unwrap_or(u32::MAX)
 }
 
 impl Search {
@@ -35,39 +33,24 @@ impl Search {
         let real = arena.real(number);
         let group = self.nodes.saturating_sub(node.root) as u64;
         let base = group.checked_shl(u64::BITS.saturating_sub(self.layout.group));
-        let even = self.half(real, base.unwrap_or(0));
+        let even = base.unwrap_or(0);
         let height = u64::from(node.height).wrapping_mul(2).wrapping_add(MARK);
-        let odd = Counted {
-            base: even.base.wrapping_add(height),
-            ..even
-        };
+        let odd = even.wrapping_add(height);
         let size = self.odd.size(real);
-        let is_constant = even.unit == 0 && !self.words.has_some(real);
+        let is_constant = !self.counts.has_some(real) && !self.words.has_some(real);
         if is_constant && size == 0 {
-            Column::Same(even.base)
+            Column::Same(even)
         } else if is_constant && size == arena.states {
-            Column::Same(odd.base)
+            Column::Same(odd)
         } else {
-            Column::Won(Halves {
+            Column::Won(Marked {
                 marks: place(real.wrapping_mul(self.odd.width())),
                 even,
                 odd,
+                unit: 1_u64.checked_shl(self.layout.low).unwrap_or(0),
+                counts: place(real),
                 words: place(real),
             })
-        }
-    }
-
-    // A player's numbers of a node, with what is counted, if anything is.
-    fn half(&self, real: usize, base: u64) -> Counted {
-        let has_counts = self.counts.has_some(real);
-        Counted {
-            base,
-            unit: if has_counts {
-                1_u64.checked_shl(self.layout.low).unwrap_or(0)
-            } else {
-                0
-            },
-            counts: if has_counts { place(real) } else { NOWHERE },
         }
     }
 

@@ -13,9 +13,7 @@ const FIRST_VERTICES: usize = 65_536;
 
 const TIMES: usize = 8;
 
-// How many ways are looked at once a loop is known, for each vertex of the ball and for any.
-const LOOKS_EACH: u64 = 16;
-
+// How many ways are looked at once a loop is known, beside one for each vertex of the ball.
 const LOOKS: u64 = 4_194_304;
 
 // One more than the greatest priority of a game.
@@ -66,9 +64,7 @@ impl<'a> Search<'a> {
             closing: Closing::new(alloc, graph)?,
             best: None,
             total: u32::MAX,
-            budget: LOOKS_EACH
-                .saturating_mul(far.len() as u64)
-                .saturating_add(LOOKS),
+            budget: LOOKS.saturating_add(far.len() as u64),
         })
     }
 

@@ -8,5 +8,3 @@ mod Steps
 mod Goodness
 mod Lent
 mod Always
-mod Units
-mod Full

@@ -4,7 +4,6 @@
 ghost use Rattle.rankings.specs.Laws.{RankingDecides};
 
 mod column;
-mod counted;
 mod nodes;
 mod numbers;
 pub mod sheet;

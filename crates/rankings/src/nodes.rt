@@ -155,18 +155,6 @@ fn singles_lead(slopes: Slopes, own: Numbers<'_>, next: Numbers<'_>, span: Span)
     true
 }
 
-// Whether the vertices of a node with this child alone are ranked.
-fn single_leads(sheet: &Sheet, slopes: Slopes, number: u32, child: u32, span: Span) -> bool
-    ensures { IsTrue result → (s : ℕ) → span.first ≤ s → s < span.end → CanFollow slopes (cell sheet.now number s) (cell sheet.now child s) }
-{
-    if sheet.counts_follow(slopes, number, child, span.first, span.end) {
-        return true;
-    }
-    let own = sheet.column_in(number, span.first, span.end);
-    let next = sheet.column_in(child, span.first, span.end);
-    singles_lead(slopes, own, next, span)
-}
-
 // Whether the vertices of a junction are ranked.
 fn junctions_lead(
     owner: Player,
@@ -271,18 +259,18 @@ pub(crate) fn is_ranked(
 {
     let _states = lts.states();
     let slopes = sheet.slopes(node.priority);
-    let own = sheet.column_in(number, span.first, span.end);
+    let own = sheet.column(number);
     match &node.kind {
         Kind::True => constants_lead(slopes, own, TRUE_SINK, span),
         Kind::False => constants_lead(slopes, own, FALSE_SINK, span),
         Kind::And(left, right) => {
-            let left = sheet.column_in(*left, span.first, span.end);
-            let right = sheet.column_in(*right, span.first, span.end);
+            let left = sheet.column(*left);
+            let right = sheet.column(*right);
             junctions_lead(Player::Odd, slopes, own, left, right, span)
         }
         Kind::Or(left, right) => {
-            let left = sheet.column_in(*left, span.first, span.end);
-            let right = sheet.column_in(*right, span.first, span.end);
+            let left = sheet.column(*left);
+            let right = sheet.column(*right);
             junctions_lead(Player::Even, slopes, own, left, right, span)
         }
         Kind::Dia(_, child) => {
@@ -294,7 +282,7 @@ pub(crate) fn is_ranked(
             modalities_lead(lts, Player::Odd, slopes, own, set, next, span)
         }
         Kind::Mu(child) | Kind::Nu(child) | Kind::Var(child) => {
-            single_leads(sheet, slopes, number, *child, span)
+            singles_lead(slopes, own, sheet.column(*child), span)
         }
     }
 }

@@ -6,8 +6,7 @@ ghost use Rattle.rankings.specs.Columns.{number_at};
 ghost use Rattle.rankings.specs.Ranking.{IsRising};
 
 use crate::column::Numbers;
-use crate::counted::counts_follow;
-use crate::numbers::{numbers, within};
+use crate::numbers::numbers;
 use crate::slope::{Slope, Slopes};
 use crate::slopes::is_of;
 use columns::column::Columns;
@@ -69,7 +68,7 @@ fn shift_of(shifts: &[u32], priority: u32) -> u32
 }
 
 impl Sheet {
-    ghost use Rattle.rankings.specs.Slopes.{AreSlopes, CanFollow};
+    ghost use Rattle.rankings.specs.Slopes.{AreSlopes};
     ghost use Rattle.rankings.specs.Stored.{AreColumnsStored, cells_of};
 
     /// The sheet of these columns and shifts, of which each list is by priority. There is none where the shifts fall, or one is above 63.
@@ -106,27 +105,6 @@ impl Sheet {
         ensures { number_at result ≡ cell self.now node }
     {
         numbers(&self.columns, node)
-    }
-
-    /// The numbers of a node at the states of a span.
-    pub(crate) fn column_in(&self, node: u32, first: u32, end: u32) -> Numbers<'_>
-        ensures { (s : ℕ) → first ≤ s → s < end → number_at result s ≡ cell self.now node s }
-    {
-        within(self.column(node), first, end)
-    }
-
-    /// Whether the play goes on well from a node to another one at the states of a span, as far as that is known without a look at each.
-    pub(crate) fn counts_follow(
-        &self,
-        slopes: Slopes,
-        own: u32,
-        next: u32,
-        first: u32,
-        end: u32,
-    ) -> bool
-        ensures { IsTrue result → (s : ℕ) → first ≤ s → s < end → CanFollow slopes (cell self.now own s) (cell self.now next s) }
-    {
-        counts_follow(&self.columns, slopes, own, next, first, end)
     }
 
     // How many bits don't count for a player at a priority.

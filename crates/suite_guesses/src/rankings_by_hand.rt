@@ -1,7 +1,7 @@
 // Rankings of arenas, made by hand: which are good, and what they tell.
 
 use crate::common::{formula, holds, normal_form, system};
-use columns::column::{Column, Columns, Counted, Halves};
+use columns::column::{Column, Columns, Marked};
 use forms::form::Normal;
 use lts::Lts;
 use rankings::sheet::Sheet;
@@ -37,12 +37,23 @@ fn push_rows(rt: &(impl Abort + AllocGlobal), words: &mut Vec<Vec<u64>>, rows: R
     }
 }
 
+// No list.
+const NONE: u32 = u32::MAX;
+
 // So many columns, each of which is a list of its own.
 fn push_listed(rt: &impl Abort, nodes: &mut Vec<Column>, count: usize) {
-    let mut place = 0_u32;
+    let mut words = 0_u32;
     for _ in 0..count {
-        nodes.push(Column::Listed(place)).expect(rt, "memory");
-        place = place.wrapping_add(1);
+        let column = Column::Won(Marked {
+            marks: 0,
+            even: 0,
+            odd: 0,
+            unit: 0,
+            counts: NONE,
+            words,
+        });
+        nodes.push(column).expect(rt, "memory");
+        words = words.wrapping_add(1);
     }
 }
 
@@ -198,26 +209,17 @@ fn fixpoints_that_only_go_on(rt: HostRuntime) {
     }
 }
 
-// A node's marks of the states that Odd wins, and the bases of both players. Even counts by twos.
+// A node's marks of the states that Odd wins, and the numbers of both players, with twos for what is counted.
 type Row = (u64, u64, u64);
 
-// No list.
-const NONE: u32 = u32::MAX;
-
-fn halves(marks: u32, row: Row) -> Halves {
+fn marked(marks: u32, row: Row) -> Marked {
     let (_, even, odd) = row;
-    Halves {
+    Marked {
         marks,
-        even: Counted {
-            base: even,
-            unit: 2,
-            counts: 0,
-        },
-        odd: Counted {
-            base: odd,
-            unit: 0,
-            counts: NONE,
-        },
+        even,
+        odd,
+        unit: 2,
+        counts: 0,
         words: NONE,
     }
 }
@@ -226,7 +228,7 @@ fn halves(marks: u32, row: Row) -> Halves {
 fn push_won(rt: &impl Abort, nodes: &mut Vec<Column>, rows: &[Row]) {
     let mut place = 0_u32;
     for row in rows {
-        let column = Column::Won(halves(place, *row));
+        let column = Column::Won(marked(place, *row));
         nodes.push(column).expect(rt, "memory");
         place = place.wrapping_add(1);
     }
@@ -268,8 +270,7 @@ fn is_counted(rt: &(impl Abort + Threads + AllocGlobal + Sync), rows: &[Row], fo
     drop(sheet);
 }
 
-// A binder, its operand and its variable count by the same list: it is told from their bases, marks and units whether each is ranked.
-// Two are good; of the others the first stays, and then one rises, climbs, lies and wraps.
+// A binder, its operand and its variable count by the same list. Two are good; of the others the first stays, and then one rises, climbs, lies and wraps.
 static COUNTS: [(&[Row], Found); 7] = [
     (
         &[(4, 2, 3), (4, 0, 7), (4, 2, 5)],
