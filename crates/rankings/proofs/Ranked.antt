@@ -172,3 +172,6 @@ steps_moved l x o p set a b a' b' m s e f g t =
       numbers = t.numbers;
       steps = subst (λ n. StepsFollow x o n set t.row b m) f t.steps;
     }))
+
+pub two_columns : (x : Slopes) (a b a' b' : ℕ) → a ≡ a' → b ≡ b' → CanFollow x a b → CanFollow x a' b'
+two_columns x a b a' b' e f h = subst (λ z. CanFollow x z b') e (subst (λ z. CanFollow x a z) f h)

@@ -8,7 +8,7 @@ use Rattle.forms.specs.Taken.{IsSetFor}
 use Rattle.rankings.specs.Cells.{cell}
 use Rattle.rankings.specs.Columns.{number_at}
 use Rattle.rankings.specs.Slopes.{CanFollow}
-use Rattle.rankings.proofs.Ranked.{constant_ranked, junction_ranked, modality_ranked, single_ranked, steps_moved, two_moved}
+use Rattle.rankings.proofs.Ranked.{constant_ranked, junction_ranked, modality_ranked, single_ranked, steps_moved, two_columns, two_moved}
 use Rattle.rankings.proofs.nodes.is_ranked.Goals as goal
 
 pub returns-in-True : goal.returns-in-True
@@ -63,9 +63,8 @@ pub returns-in-Mu : goal.returns-in-Mu
 returns-in-Mu c = λ yes s h i.
     let n : ℕ = length c.args.sheet.now.nodes in
     let follows =
-    subst (λ own. CanFollow c.slopes-slopes.result own (cell c.args.sheet.now c.in-Mu.child s)) (ap (λ f. f s) c.column-own.ensures)
-    (subst (λ next. CanFollow c.slopes-slopes.result (number_at c.column-own.result s) next) (ap (λ f. f s) c.column-in-Mu.ensures)
-    (c.singles_lead.ensures yes s h i))
+    two_columns c.slopes-slopes.result (number_at c.column-own.result s) (number_at c.column.result s) (cell c.args.sheet.now c.args.number s)
+    (cell c.args.sheet.now c.in-Mu.child s) (ap (λ f. f s) c.column-own.ensures) (ap (λ f. f s) c.column.ensures) (c.singles_lead.ensures yes s h i)
     in
     let ranked = λ (e : successors_of c.args.lts.now.system n s (shape_of c.args.node.now.kind) ≡ place n s c.in-Mu.child ∷ []) (low : c.in-Mu.child < n).
     single_ranked c.args.sheet.now c.args.lts.now c.slopes-slopes.result s c.args.number (node_of c.args.node.now) c.requires.node c.slopes-slopes.ensures
