@@ -206,7 +206,7 @@ fn are_words(row: &[Transition]) -> bool
     true
 }
 
-// The same from a modality, whichever transitions there are.
+// Whether the vertices of a modality are ranked, whichever transitions there are.
 fn steps_always_lead(slopes: Slopes, own: Numbers<'_>, next: Numbers<'_>, sink: u64) -> bool
     ensures { IsTrue result → (s t : ℕ) → CanFollow slopes (number_at own.entry s) (number_at next.entry t) × CanFollow slopes (number_at own.entry s) sink }
 {

@@ -26,9 +26,6 @@ use systems::system::Lts;
 // An arena of fewer vertices is looked at by one thread, since more of them cost more than they save.
 const LEAST_SPLIT: u64 = 262_144;
 
-// How many states are looked at for all nodes before others are, or up to twice as many.
-const BLOCK: u32 = 1_024;
-
 // Whether the vertices of all nodes with the states of a span are ranked.
 fn are_ranked(lts: &Lts, form: &Normal, sets: &[Vec<bool>], sheet: &Sheet, span: Span) -> bool
     requires sets { AreSets lts.now.labels (normal_nodes form.now) (map (λ set. set.items) sets.now) }
@@ -47,33 +44,7 @@ fn are_ranked(lts: &Lts, form: &Normal, sets: &[Vec<bool>], sheet: &Sheet, span:
     true
 }
 
-// The same, block by block, so that what is read of a state is at hand for each node.
-fn are_blocks_ranked(
-    lts: &Lts,
-    form: &Normal,
-    sets: &[Vec<bool>],
-    sheet: &Sheet,
-    span: Span,
-) -> bool
-    requires sets { AreSets lts.now.labels (normal_nodes form.now) (map (λ set. set.items) sets.now) }
-    requires count { length sets.now ≡ length (normal_nodes form.now) }
-    requires nodes { length sheet.now.nodes ≡ length (normal_nodes form.now) }
-    requires states { span.end ≤ lts.now.system.states }
-    ensures { IsTrue result → AreRanked lts.now (normal_nodes form.now) sheet.now span.first span.end }
-{
-    let blocks = (span.end - span.first) / BLOCK;
-    let mut rest = span;
-    for done in 0..blocks {
-        let (block, others) = rest.cut(blocks - done);
-        if !are_ranked(lts, form, sets, sheet, block) {
-            return false;
-        }
-        rest = others;
-    }
-    are_ranked(lts, form, sets, sheet, rest)
-}
-
-// The same, where so many threads look at the states, each at as many.
+// Whether the vertices of all nodes with the states of a span are ranked. So many threads look at the states, each at as many.
 #[cycle(spans)]
 fn are_ranked_by<R: Threads + Sync>(
     rt: &R,
@@ -91,7 +62,7 @@ fn are_ranked_by<R: Threads + Sync>(
     ensures { IsTrue result → AreRanked lts.now (normal_nodes form.now) sheet.now span.first span.end }
 {
     if threads <= 1 {
-        return are_blocks_ranked(lts, form, sets, sheet, span);
+        return are_ranked(lts, form, sets, sheet, span);
     }
     let (first, rest) = span.cut(threads);
     let see_first = || -> bool
@@ -100,7 +71,7 @@ fn are_ranked_by<R: Threads + Sync>(
         requires nodes { length sheet.now.nodes ≡ length (normal_nodes form.now) }
         requires states { first.end ≤ lts.now.system.states }
         ensures { IsTrue result → AreRanked lts.entry.now (normal_nodes form.entry.now) sheet.entry.now first.first first.end }
-    { are_blocks_ranked(lts, form, sets, sheet, first) };
+    { are_ranked(lts, form, sets, sheet, first) };
     let see_rest = || -> bool
         requires sync { IsSync R.row }
         requires threads { 0 < threads }
@@ -149,7 +120,7 @@ fn marks_of(alloc: Global, sheet: &Sheet, states: u32) -> Result<Vec<bool>, Allo
     Ok(marks)
 }
 
-// The same, where the sheet is a good ranking.
+// The marks of a sheet that is a good ranking.
 fn checked_marks<R: Threads + Sync>(
     rt: &R,
     alloc: Global,
