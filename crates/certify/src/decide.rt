@@ -8,17 +8,15 @@ ghost use Rattle.evidence.specs.Evidence.{has};
 ghost use Rattle.evidence.specs.Laws.{IsSmall};
 
 use crate::guessed::guessed_pair;
-use crate::hands::hands;
 use crate::pair::EvidencePair;
 use crate::small::is_small;
 use evidence::evidence::Evidence;
 use evidence::law::evidence_text_spells;
-use evidence::spans::check_both_by;
 use evidence::verdict::Both;
+use evidence::verify::check_both;
 use game::graph::Game;
 use gauge::Gauge;
 use std::alloc::{AllocError, Global};
-use std::thread::Threads;
 
 /// A mark for each vertex that Even's evidence has.
 ///
@@ -37,30 +35,18 @@ pub fn set_marks(alloc: Global, game: &Game, even: &Evidence) -> Result<Vec<bool
 }
 
 /// A mark for each vertex, true where Even wins it, by evidence that is guessed. There is none where there is no such evidence, or for want of memory.
-pub fn certified_winners<R: Threads + Sync>(
-    rt: &R,
-    alloc: Global,
-    game: &Game,
-    workers: usize,
-    gauge: Option<&Gauge>,
-) -> Option<Vec<bool>>
+pub fn certified_winners(alloc: Global, game: &Game, gauge: Option<&Gauge>) -> Option<Vec<bool>>
     ensures { IfSome result (λ marks. MarksOf (length game.now.vertices) marks.items (Wins game.now)) }
 {
-    let pair = certified_evidence(rt, alloc, game, workers, gauge)?;
+    let pair = certified_evidence(alloc, game, gauge)?;
     match set_marks(alloc, game, &pair.even) {
         Ok(marks) => Some(marks),
         Err(AllocError) => None,
     }
 }
 
-// The same pair, where the checker accepts it, no vertex is left out, and its texts can be read again.
-fn checked_pair<R: Threads + Sync>(
-    rt: &R,
-    alloc: Global,
-    game: &Game,
-    pair: EvidencePair,
-    workers: usize,
-) -> Option<EvidencePair>
+// A pair that the checker accepts, where no vertex is left out, and its texts can be read again.
+fn checked_pair(game: &Game, pair: EvidencePair) -> Option<EvidencePair>
     requires { AreOf game.now pair }
     ensures { IfSome result (AreFull game.now) }
 {
@@ -68,7 +54,7 @@ fn checked_pair<R: Threads + Sync>(
     game.known();
     pair.even.known();
     pair.odd.known();
-    let both = check_both_by(rt, alloc, game, &pair.even, &pair.odd, workers);
+    let both = check_both(game, &pair.even, &pair.odd);
     if matches!(both, Both::Yes) && are_small(game, &pair) {
         Some(pair)
     } else {
@@ -87,17 +73,11 @@ fn are_small(game: &Game, pair: &EvidencePair) -> bool
 }
 
 /// Evidence of all that each player wins, by a guess of winners, moves and ranks. There is none where the checker refuses the evidence that is
-/// made of the guess, where a count is too great for its text, where the guess took too long, or for want of memory. So many threads share the
-/// check of a large game, and no more than there are processors. A gauge shows how far the guess has come.
-pub fn certified_evidence<R: Threads + Sync>(
-    rt: &R,
-    alloc: Global,
-    game: &Game,
-    workers: usize,
-    gauge: Option<&Gauge>,
-) -> Option<EvidencePair>
+/// made of the guess, where a count is too great for its text, where the guess took too long, or for want of memory. A gauge shows how far the guess has
+/// come.
+pub fn certified_evidence(alloc: Global, game: &Game, gauge: Option<&Gauge>) -> Option<EvidencePair>
     ensures { IfSome result (AreFull game.now) }
 {
     let pair = guessed_pair(alloc, game, gauge)?;
-    checked_pair(rt, alloc, game, pair, hands(rt, workers))
+    checked_pair(game, pair)
 }

@@ -3,6 +3,5 @@
 
 pub mod decide;
 mod guessed;
-pub mod hands;
 pub mod pair;
 mod small;

@@ -46,8 +46,7 @@ pub(crate) fn evidence_by<
         observer.sees(Stage::Searching {
             vertices: game.vertices(),
         });
-        let workers = options.workers as usize;
-        if let Some(pair) = certified_evidence(rt, alloc, game, workers, observer.gauge()) {
+        if let Some(pair) = certified_evidence(alloc, game, observer.gauge()) {
             return Ok(pair);
         }
     }

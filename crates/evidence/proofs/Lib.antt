@@ -29,4 +29,3 @@ pub mod Shortened
 pub mod Lifted
 pub mod Shortening
 pub mod Taking
-pub mod Spanned

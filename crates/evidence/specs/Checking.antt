@@ -39,14 +39,6 @@ abbrev pub IsLeftOver : Game → Evidence → Evidence → Option ℕ → Type 0
 IsLeftOver g e f None = (v : ℕ) → v < length g.vertices → IsTrue (has e v) ⊎ IsTrue (has f v)
 IsLeftOver g e f (Some v) = (v < length g.vertices) × IsLeftOut e f v × ((u : ℕ) → u < v → IsTrue (has e u) ⊎ IsTrue (has f u))
 
--- A vertex is in one of the two, and no fault stands there in either.
-abbrev pub IsSoundAt : Game → Evidence → Evidence → ℕ → Type 0
-IsSoundAt g e f v = (IsTrue (has e v) ⊎ IsTrue (has f v)) × ((fault : Fault) → IsFreeAt g e v fault) × ((fault : Fault) → IsFreeAt g f v fault)
-
--- So are all vertices of a span, where spans have so many each.
-abbrev pub IsSoundSpan : Game → Evidence → Evidence → (size span : ℕ) → Type 0
-IsSoundSpan g e f size span = (v : ℕ) → span * size ≤ v → v < span * size + size → v < length g.vertices → IsSoundAt g e f v
-
 -- Each holds exactly the vertices that its player wins, and none is in both.
 abbrev pub Decides : Game → Evidence → Evidence → Type 0
 Decides g e f =

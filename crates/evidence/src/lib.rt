@@ -11,7 +11,6 @@ pub mod make;
 pub mod reader;
 mod scan;
 mod short;
-pub mod spans;
 pub mod verdict;
 pub mod verify;
 pub mod writer;

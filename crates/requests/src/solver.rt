@@ -87,8 +87,7 @@ pub fn winners_by<O: Observer + Sync, R: Threads + Wait + Clone + Copy + Drop + 
         observer.sees(Stage::Searching {
             vertices: game.vertices(),
         });
-        let workers = options.workers as usize;
-        if let Some(marks) = certified_winners(rt, alloc, game, workers, observer.gauge()) {
+        if let Some(marks) = certified_winners(alloc, game, observer.gauge()) {
             return Ok(marks);
         }
     }

@@ -131,11 +131,8 @@ pub(crate) fn solved(rt: &(impl Abort + AllocGlobal), game: &Game) -> Settled
 }
 
 /// The vertices that Even wins, by evidence that is guessed and that the checker accepts.
-pub(crate) fn certified(
-    rt: &(impl Abort + AllocGlobal + Threads + Sync),
-    game: &Game,
-) -> Vec<bool> {
-    certified_winners(rt, rt.alloc(), game, 1, None).expect(rt, "good evidence")
+pub(crate) fn certified(rt: &(impl Abort + AllocGlobal), game: &Game) -> Vec<bool> {
+    certified_winners(rt.alloc(), game, None).expect(rt, "good evidence")
 }
 
 /// Whether there is a mark at a vertex.

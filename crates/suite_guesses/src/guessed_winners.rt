@@ -52,7 +52,7 @@ static SHAPES: [Shape; 4] = [
 ];
 
 // How many vertices Even wins.
-fn evens(rt: &(impl Abort + AllocGlobal + Threads + Sync), game: &Game) -> usize {
+fn evens(rt: &(impl Abort + AllocGlobal), game: &Game) -> usize {
     let marks = certified(rt, game);
     let count = marks.iter().filter(|mark| **mark).count();
     drop(marks);
@@ -148,9 +148,8 @@ fn games_at_random_are_won(rt: HostRuntime) {
     }
 }
 
-// Threads share the check of a game of 65,536 vertices and more.
 #[test]
-fn a_large_game_is_won_by_threads(rt: HostRuntime) {
+fn a_gauge_shows_how_far_a_guess_has_come(rt: HostRuntime) {
     let shape = Shape {
         vertices: 70_000,
         priorities: 10,
@@ -158,9 +157,8 @@ fn a_large_game_is_won_by_threads(rt: HostRuntime) {
     };
     let game = rolled_game(&rt, &mut Dice::new(11), shape);
     let gauge = Gauge::new();
-    let marks = certified_winners(&rt, rt.alloc(), &game, 4, Some(&gauge)).expect(&rt, "marks");
+    let marks = certified_winners(rt.alloc(), &game, Some(&gauge)).expect(&rt, "marks");
     holds!(&rt; gauge.reading().is_some_and(|reading| reading.done > 70_000));
-    holds!(&rt; marks == certified(&rt, &game));
     drop(marks);
     drop(game);
 }

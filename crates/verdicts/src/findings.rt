@@ -306,8 +306,7 @@ fn settle_posed<O: Observer + Sync, H: Threads + Wait + Clone + Copy + Drop + Se
     if let Some(settled) = guessed_table(alloc, &posed.texts, posed.priorities, Side::Even, game) {
         return Ok(settled);
     }
-    let workers = options.workers as usize;
-    let won = certified_winners(rt, alloc, game, workers, observer.gauge());
+    let won = certified_winners(alloc, game, observer.gauge());
     solve_seen(rt, alloc, game, options, &NoGate, observer, won.as_deref())
 }
 

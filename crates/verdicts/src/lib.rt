@@ -4,6 +4,7 @@
 
 pub mod findings;
 mod guessing;
+mod hands;
 pub mod lifting;
 pub mod marks;
 pub mod pairs;

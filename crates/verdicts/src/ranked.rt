@@ -9,9 +9,9 @@ ghost use Rattle.game.specs.Arena.{arena, place};
 ghost use Rattle.game.specs.Wins.{Wins};
 ghost use Rattle.requests.specs.Check.{AreMarks, ByGame};
 
+use crate::hands::hands;
 use arena_search::ranking::ranking;
 use calculus::closed::Closed;
-use certify::hands::hands;
 use forms::form::Normal;
 use laws::{chosen_is_admissible, even_wins_where_meant};
 use lts::system::Lts;
@@ -48,7 +48,8 @@ fn ranked_winners<H: Threads + Sync>(
 }
 
 /// A mark for each state, true where it satisfies the formula: by a ranking of the game of both that is searched for and found good. There is none where it
-/// isn't good, where a limit is passed, or for want of memory; nor where a board is named, over which workers are to lift. As many threads work as there are workers, and no more than there are processors. An observer is told that winners are searched for.
+/// isn't good, where a limit is passed, or for want of memory; nor where a board is named, over which workers are to lift. As many threads work as there are
+/// workers, and no more than there are processors. An observer is told that winners are searched for.
 pub(crate) fn ranked_marks<O: Observer, H: Threads + Sync>(
     rt: &H,
     alloc: Global,

@@ -5,7 +5,7 @@ ghost use Rattle.std.specs.Prelude.{◌<◌, ◌≤◌};
 use std::thread::{Threads, available_parallelism};
 
 /// How many of so many threads have a processor each: others would wait for one in turns. All have, where that isn't known.
-pub fn hands<R: Threads>(rt: &R, workers: usize) -> usize
+pub(crate) fn hands<R: Threads>(rt: &R, workers: usize) -> usize
     ensures most { result ≤ workers }
     ensures some { 0 < workers → 0 < result }
 {
