@@ -80,23 +80,12 @@ impl<'a> Search<'a> {
     // Looks for loops whose greatest priority this is.
     fn look_below(&mut self, top: u32) -> Result<(), AllocError> {
         let rooms = self.graph.rooms(self.alloc, top)?;
-        self.look_through_top(&rooms, top)?;
         for (start, far) in (0..u32::MAX).zip(self.far.as_slice()) {
             if *far >= self.total || self.closing.looks > self.budget {
                 break;
             }
             if rooms.get_or(start as usize, 0) != NOWHERE {
                 self.look_from(&rooms, top, start, *far)?;
-            }
-        }
-        Ok(())
-    }
-
-    // A loop through the first place of this priority that has one.
-    fn look_through_top(&mut self, rooms: &List<u32>, top: u32) -> Result<(), AllocError> {
-        for (start, room) in (0..u32::MAX).zip(rooms.as_slice()) {
-            if *room != NOWHERE && self.graph.priority(start) == top {
-                return self.look_from(rooms, top, start, 0);
             }
         }
         Ok(())
