@@ -87,7 +87,7 @@ impl Search {
             self.gain.set_word(number, word, bits);
             self.delta.add(number, word, bits);
         }
-        self.cursors.fill(number, 0);
+        self.cursors.clear(number);
     }
 
     // What all nodes gain by the new states of their children.
@@ -216,7 +216,7 @@ impl Search {
     // Whether all successors are gained. If not, the first one that isn't is noted.
     #[inline(always)]
     fn has_all(&mut self, arena: &Arena, number: usize, node: Node, state: usize) -> bool {
-        let first = self.cursors.get_or(number, state, 0);
+        let first = self.cursors.get(number, state);
         let mut passed = first;
         for edge in arena.forth.row(state, first) {
             if takes(node.mask, *edge) && !self.gain.has(node.first, state_of(*edge)) {

@@ -4,7 +4,6 @@ use crate::arena::{Arena, Node, Shape};
 use crate::edges::{state_of, takes};
 use crate::fields::Step;
 use crate::search::Search;
-use std::alloc::Global;
 
 /// A vertex whose measure follows from its successors': that of who wins it, the least of them where it is the winner's own.
 #[derive(Clone, Copy)]
@@ -33,14 +32,12 @@ impl Lifted {
 
 impl Search {
     /// Finds the measures of the component at hand, of which the winners are known: those of binders that lead back to themselves first.
-    pub(crate) fn lift_part(&mut self, alloc: Global, arena: &Arena) {
+    pub(crate) fn lift_part(&mut self, arena: &Arena) {
         for are_binders in [true, false] {
             for number in (self.part.root..self.nodes).rev() {
                 let node = arena.node(number);
                 let is_counted = self.part.is_cyclic && node.is_binder();
                 if self.part.has(node) && is_counted == are_binders {
-                    let list = self.measures(number);
-                    self.open_list(alloc, list, arena.states);
                     self.lift_node(arena, number, node, is_counted);
                 }
             }

@@ -37,7 +37,7 @@ impl Search {
         let height = u64::from(node.height).wrapping_mul(2).wrapping_add(MARK);
         let odd = even.wrapping_add(height);
         let size = self.odd.size(real);
-        let is_constant = !self.counts.has_some(real) && !self.words.has_some(real);
+        let is_constant = !self.counts.has(real) && !self.words.has(real);
         if is_constant && size == 0 {
             Column::Same(even)
         } else if is_constant && size == arena.states {

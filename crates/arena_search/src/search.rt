@@ -34,7 +34,7 @@ pub(crate) struct Search {
     pub(crate) order: List<usize>,
     /// The nodes outside to which they lead.
     pub(crate) exits: List<usize>,
-    /// For each block the round at hand, and one in the field of rounds, or of levels.
+    /// For each block the round at hand, and one in the field of rounds, or of levels, where these count.
     pub(crate) rounds: List<u32>,
     units: List<u64>,
     /// For each block and node the states that the player of the block has gained.
@@ -101,9 +101,9 @@ impl Search {
             next: Fronts::new(alloc, nodes, states),
             odd: Sets::new(alloc, nodes, states),
             stride,
-            counts: Table::new(alloc, lists),
-            words: Table::new(alloc, lists),
-            cursors: Table::new(alloc, nodes),
+            counts: Table::new(alloc, lists, states, 0),
+            words: Table::new(alloc, lists, states, 0),
+            cursors: Table::new(alloc, nodes, states, 0),
             is_walking: false,
             todo: List::none(alloc),
             later: List::none(alloc),
@@ -158,9 +158,9 @@ impl Search {
     #[inline(always)]
     pub(crate) fn counted(&self, list: usize, state: usize) -> u64 {
         if self.layout.is_wide {
-            self.words.get_or(list, state, 0)
+            self.words.get(list, state)
         } else {
-            u64::from(self.counts.get_or(list, state, 0))
+            u64::from(self.counts.get(list, state))
         }
     }
 
@@ -228,25 +228,25 @@ impl Search {
         let mut search = Search::new(alloc, arena, layout);
         for root in (0..arena.count()).rev() {
             if arena.node(root).root == root && search.left > 0 {
-                search.solve(alloc, arena, root);
+                search.solve(arena, root);
             }
         }
         search
     }
 
     // Finds who wins the nodes of the component with this root, where it is known of those below it.
-    fn solve(&mut self, alloc: Global, arena: &Arena, root: usize) {
+    fn solve(&mut self, arena: &Arena, root: usize) {
         self.part = Part::of(arena, root);
         self.place = self.layout.place(self.part.least);
         for block in 0..self.part.blocks {
             let unit = self.layout.unit(self.part.priority(block));
-            self.units.set(block, unit);
+            self.units.set(block, if self.part.is_cyclic { unit } else { 0 });
         }
         self.order.clear();
         self.exits.clear();
         self.timed = 0;
         for number in (root..self.nodes).rev() {
-            self.enter(alloc, arena, number);
+            self.enter(arena, number);
         }
         self.play(arena);
         for place in 0..self.order.len() {
@@ -254,12 +254,12 @@ impl Search {
             self.conclude(number);
         }
         if arena.is_exact {
-            self.lift_part(alloc, arena);
+            self.lift_part(arena);
         }
     }
 
-    // Enters a node of the component, with lists for what is counted, and its children that are outside.
-    fn enter(&mut self, alloc: Global, arena: &Arena, number: usize) {
+    // Enters a node of the component, and its children that are outside.
+    fn enter(&mut self, arena: &Arena, number: usize) {
         let node = arena.node(number);
         let is_variable = node.shape == Shape::Variable && !self.part.counts_steps;
         if !self.part.has(node) || is_variable {
@@ -271,24 +271,6 @@ impl Search {
             if child < self.nodes && !self.part.has(arena.node(child)) {
                 self.enter_exit(arena, child);
             }
-        }
-        if node.is_modal() && !self.part.wants_one(node) {
-            self.cursors.open(alloc, number, arena.states, 0);
-        }
-        if self.part.is_cyclic {
-            for block in self.part.block(node)..self.part.blocks {
-                let list = self.list(block, number);
-                self.open_list(alloc, list, arena.states);
-            }
-        }
-    }
-
-    /// Has a list at hand, of zeros, if it isn't.
-    pub(crate) fn open_list(&mut self, alloc: Global, list: usize, states: usize) {
-        if self.layout.is_wide {
-            self.words.open(alloc, list, states, 0);
-        } else {
-            self.counts.open(alloc, list, states, 0);
         }
     }
 

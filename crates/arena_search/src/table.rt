@@ -2,17 +2,23 @@
 
 use std::alloc::Global;
 
-/// Lists of which each is there once it is opened. What isn't there is read as a given number, and isn't written.
+/// Lists of so many numbers. One is there from the first number on that isn't zero; before all its numbers are read as zeros.
 #[derive(Drop)]
 pub(crate) struct Table<T> {
+    alloc: Global,
+    length: usize,
+    zero: T,
     lists: Vec<Vec<T>>,
     is_whole: bool,
 }
 
-impl<T: Copy + Drop> Table<T> {
+impl<T: Copy + Drop + PartialEq> Table<T> {
     /// So many lists, of which none is there yet.
-    pub(crate) fn new(alloc: Global, count: usize) -> Self {
+    pub(crate) fn new(alloc: Global, count: usize, length: usize, zero: T) -> Self {
         let mut table = Table {
+            alloc,
+            length,
+            zero,
             lists: Vec::new(alloc),
             is_whole: true,
         };
@@ -29,13 +35,37 @@ impl<T: Copy + Drop> Table<T> {
 
     /// All lists.
     pub(crate) fn into_lists(self) -> Vec<Vec<T>> {
-        let Table { lists, is_whole: _ } = self;
+        let Table { lists, .. } = self;
         lists
     }
 
-    /// Makes a list so many times this number.
-    pub(crate) fn open(&mut self, alloc: Global, list: usize, length: usize, item: T) {
-        match vec![in alloc; item; length] {
+    /// Whether a list is there.
+    pub(crate) fn has(&self, list: usize) -> bool {
+        list < self.lists.len() && !self.lists[list].is_empty()
+    }
+
+    #[inline(always)]
+    pub(crate) fn get(&self, list: usize, state: usize) -> T {
+        if list < self.lists.len() && state < self.lists[list].len() {
+            self.lists[list][state]
+        } else {
+            self.zero
+        }
+    }
+
+    #[inline(always)]
+    pub(crate) fn set(&mut self, list: usize, state: usize, item: T) {
+        if item != self.zero && !self.has(list) {
+            self.open(list);
+        }
+        if list < self.lists.len() && state < self.lists[list].len() {
+            self.lists[list][state] = item;
+        }
+    }
+
+    #[inline(never)]
+    fn open(&mut self, list: usize) {
+        match vec![in self.alloc; self.zero; self.length] {
             Ok(items) => {
                 if list < self.lists.len() {
                     self.lists[list] = items;
@@ -45,33 +75,10 @@ impl<T: Copy + Drop> Table<T> {
         }
     }
 
-    #[inline(always)]
-    pub(crate) fn get_or(&self, list: usize, state: usize, other: T) -> T {
-        if list < self.lists.len() && state < self.lists[list].len() {
-            self.lists[list][state]
-        } else {
-            other
-        }
-    }
-
-    #[inline(always)]
-    pub(crate) fn set(&mut self, list: usize, state: usize, item: T) {
-        if list < self.lists.len() && state < self.lists[list].len() {
-            self.lists[list][state] = item;
-        }
-    }
-
-    /// Whether a list is there, and not empty.
-    pub(crate) fn has_some(&self, list: usize) -> bool {
-        list < self.lists.len() && !self.lists[list].is_empty()
-    }
-
-    /// Makes all numbers of a list this one.
-    pub(crate) fn fill(&mut self, list: usize, item: T) {
+    /// Makes all numbers of a list zeros.
+    pub(crate) fn clear(&mut self, list: usize) {
         if list < self.lists.len() {
-            for place in 0..self.lists[list].len() {
-                self.set(list, place, item);
-            }
+            self.lists[list].as_mut_slice().fill(self.zero);
         }
     }
 }
