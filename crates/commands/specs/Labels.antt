@@ -52,10 +52,9 @@ abbrev pub has_label : (label : List ℕ) → Shape → Bool
 has_label label (ModalityNode flag a child) = holds a label
 has_label label _ = false
 
--- some node of a normal form has one, where there is a normal form
-abbrev pub is_taken : Option (List Node) → (label : List ℕ) → Bool
-is_taken None label = false
-is_taken (Some nodes) label = list_any (λ node. has_label label node.shape) nodes
+-- one of the nodes of a normal form is such a node
+abbrev pub is_taken : List Node → (label : List ℕ) → Bool
+is_taken form label = list_any (λ node. has_label label node.shape) form
 
 -- the end of the line of a label that is taken, or of another one
 abbrev pub label_end : Bool → List ℕ
@@ -66,21 +65,20 @@ abbrev pub label_line : ℕ → (label : List ℕ) → (taken : Bool) → List �
 label_line count label taken = decimal count ++ (codes " " ++ (34 ∷ label)) ++ label_end taken
 
 -- a line for each label
-pub record IsLabelsText (l : System) (form : Option (List Node)) (text : List ℕ) : Type 0 where
+pub record IsLabelsText (l : System) (form : List Node) (text : List ℕ) : Type 0 where
   pub labels : List (List ℕ)
   pub ranked : AreRanked l labels
   pub lines : text ≡ flat_map (λ label. label_line (times_of l label) label (is_taken form label)) labels
 
--- The first text spells the system, and the second one, where there is one, a formula with this normal form.
-abbrev pub AreGiven : List ℕ → Option (List ℕ) → System → Option (List Node) → Type 0
-AreGiven first None l None = IsSystemOf first l
-AreGiven first (Some second) l (Some form) = (f : Formula) × AreSpelled first second l f × HasForm Nested f × (form ≡ nodes f)
-AreGiven first _ l _ = ⊥
+-- The first text spells the system, and the second one a formula with this normal form; where there is none, the normal form has no nodes.
+abbrev pub AreGiven : List ℕ → Option (List ℕ) → System → List Node → Type 0
+AreGiven first None l form = IsSystemOf first l × (form ≡ [])
+AreGiven first (Some second) l form = (f : Formula) × AreSpelled first second l f × HasForm Nested f × (form ≡ nodes f)
 
 -- The text of that was written.
 pub record HasListed (first : List ℕ) (second : Option (List ℕ)) (old new : Taken) (answer : Bool) : Type 0 where
   pub l : System
-  pub form : Option (List Node)
+  pub form : List Node
   pub given : AreGiven first second l form
   pub text : List ℕ
   pub listed : IsLabelsText l form text
@@ -90,7 +88,7 @@ pub record HasListed (first : List ℕ) (second : Option (List ℕ)) (old new : 
 -- A beginning of it was written.
 pub record HasBegunList (first : List ℕ) (second : Option (List ℕ)) (old new : Taken) : Type 0 where
   pub l : System
-  pub form : Option (List Node)
+  pub form : List Node
   pub given : AreGiven first second l form
   pub text : List ℕ
   pub listed : IsLabelsText l form text

@@ -34,7 +34,7 @@ fn counts_of(
 }
 
 /// The labels with their counts, by number. Where a number did not fit, there would be no room for the counts either.
-fn counted(alloc: Global, counts: &[u32]) -> Result<Vec<Counted>, AllocError>
+fn numbered(alloc: Global, counts: &[u32]) -> Result<Vec<Counted>, AllocError>
     ensures { IfOk result (λ counted. counted.items ≡ map (counted_at counts.now) (range_with_len 0 (length counts.now))) }
 {
     let mut counted = Vec::with_capacity(alloc, counts.len())?;
@@ -58,7 +58,7 @@ pub(crate) fn ranked_labels(alloc: Global, lts: &Lts) -> Result<Vec<Counted>, Al
     ensures { IfOk result (λ ranked. IsRanking lts.now ranked.items) }
 {
     let counts = counts_of(alloc, lts.labels(), lts.all())?;
-    let mut ranked = counted(alloc, &counts)?;
+    let mut ranked = numbered(alloc, &counts)?;
     ranked.sort_unstable();
     Ok(ranked)
 }

@@ -1,21 +1,18 @@
 // The engine of the command `labels`.
 
-ghost use Rattle.std.specs.Prelude.{◌≡◌, ◌<◌, ◌++◌, ℕ, IfErr, List, Option, false, length, map, option_map};
-ghost use Rattle.std.specs.List.{AllByRecursion, AllByRecursion-prop, flat_map};
-ghost use Rattle.std.specs.Coded.{le_prop};
+ghost use Rattle.std.specs.Prelude.{◌≡◌, ◌<◌, ℕ, IfErr, List, Option, Some, false, length, map, option_map};
+ghost use Rattle.std.specs.List.{flat_map, list_any};
 ghost use Rattle.text.specs.Wrote.{Wrote};
 ghost use Rattle.systems.specs.Numbered.{label_at};
 ghost use Rattle.calculus.specs.Closed.{closed_formula};
-ghost use Rattle.forms.specs.Normal.{normal_nodes};
-ghost use Rattle.forms.specs.View.{shape_of};
+ghost use Rattle.forms.specs.View.{nodes_of, shape_of};
 ghost use Rattle.requests.specs.Causes.{HaveCauses};
 ghost use Rattle.requests.specs.Check.{AreSpelled};
 ghost use Rattle.commands.specs.Labels.{AnswersLabels, AreGiven, Lists, has_label, is_taken, label_end, label_line, times_of};
-ghost use Rattle.commands.specs.Ranking.{IsCounted, counted_line};
+ghost use Rattle.commands.specs.Ranking.{AreCounted, AreCounted-prop, counted_line};
 
 use crate::label_counts::{Counted, ranked_labels};
 use calculus::holds;
-use forms::form::Normal;
 use forms::node::{Kind, Node};
 use lts::reader::read_aut;
 use lts::system::Lts;
@@ -47,7 +44,7 @@ pub fn labels_text<L: BuildHasher + Drop, R: Source + Drop, S: Source + Drop, W:
 {
     match formula {
         None => match read_aut(alloc, hasher, aut) {
-            Ok(system) => write_labels(alloc, &system, None, out),
+            Ok(system) => write_labels(alloc, &system, &[], out),
             Err(error) => Err(MuError::System(error)),
         },
         Some(formula) => match read_both(alloc, hasher, aut, formula) {
@@ -64,24 +61,24 @@ fn write_taken<W: Sink>(alloc: Global, texts: &Texts, out: &mut W) -> Result<boo
     ensures cause { IfErr result (HaveCauses false false) }
 {
     match normal(alloc, &texts.formula) {
-        Ok(form) => write_labels(alloc, &texts.system, Some(&form), out),
+        Ok(form) => write_labels(alloc, &texts.system, form.nodes(), out),
         Err(error) => Err(MuError::Normal(error)),
     }
 }
 
-/// Writes the labels of the system, and where there is a normal form which of them it takes.
+/// Writes the labels of the system, and which of them a normal form with these nodes takes.
 fn write_labels<W: Sink>(
     alloc: Global,
     system: &Lts,
-    form: Option<&Normal>,
+    nodes: &[Node],
     out: &mut W,
 ) -> Result<bool, MuError>
-    ensures answers { (first : List ℕ) (second : Option (List ℕ)) → AreGiven first second system.now.system (option_map (λ f. normal_nodes f.now) form.entry)
+    ensures answers { (first : List ℕ) (second : Option (List ℕ)) → AreGiven first second system.now.system (nodes_of nodes.now)
         → AnswersLabels first second (W.taken out.old) (W.taken out.new) result }
     ensures cause { IfErr result (HaveCauses false false) }
 {
     match ranked_labels(alloc, system) {
-        Ok(ranked) => match put_labels(system, &ranked, form, out) {
+        Ok(ranked) => match put_labels(system, &ranked, nodes, out) {
             Ok(()) => Ok(true),
             Err(fault) => Err(MuError::Write(fault)),
         },
@@ -94,8 +91,8 @@ fn write_labels<W: Sink>(
 struct LabelLines<'a> {
     lts: &'a Lts,
     ranked: &'a [Counted],
-    form: Option<&'a Normal>,
-    ghost inside: { AllByRecursion (λ c. c.number < length lts.now.labels) ranked.now } by { AllByRecursion-prop _ (λ c. le_prop) ranked.now },
+    nodes: &'a [Node],
+    ghost counted: { AreCounted lts.now ranked.now } by { AreCounted-prop lts.now ranked.now },
 }
 
 impl Lines for LabelLines<'_> {
@@ -104,14 +101,14 @@ impl Lines for LabelLines<'_> {
 
     ghost count = { λ lines. length lines.ranked.now };
 
-    ghost line = { λ lines number. counted_line_at lines.lts.now.labels (option_map (λ f. normal_nodes f.now) lines.form) lines.ranked.now number };
+    ghost line = { λ lines number. counted_line_at lines.lts.now.labels (nodes_of lines.nodes.now) lines.ranked.now number };
 
     fn count(&self) -> usize {
         self.ranked.len()
     }
 
     fn put_line<W: Sink>(&self, number: usize, writer: &mut W) -> Result<(), WriteFault> {
-        put_label(self.lts, self.ranked[number], self.form, writer)
+        put_label(self.lts, self.ranked[number], self.nodes, writer)
     }
 }
 
@@ -119,26 +116,26 @@ impl Lines for LabelLines<'_> {
 fn put_labels<W: Sink>(
     lts: &Lts,
     ranked: &[Counted],
-    form: Option<&Normal>,
+    nodes: &[Node],
     out: &mut W,
 ) -> Result<(), WriteFault>
-    requires { AllByRecursion (IsCounted lts.now) ranked.now }
+    requires { AreCounted lts.now ranked.now }
     ensures { Wrote (W.taken out.old) (W.taken out.new) result
-        (flat_map (λ label. label_line (times_of lts.now.system label) label (is_taken (option_map (λ f. normal_nodes f.now) form.entry) label))
+        (flat_map (λ label. label_line (times_of lts.now.system label) label (is_taken (nodes_of nodes.now) label))
         (map (λ c. label_at lts.now.labels c.number) ranked.now)) }
 {
-    put_lines(&LabelLines { lts, ranked, form }, out)
+    put_lines(&LabelLines { lts, ranked, nodes }, out)
 }
 
 fn put_label<W: Sink>(
     lts: &Lts,
     counted: Counted,
-    form: Option<&Normal>,
+    nodes: &[Node],
     out: &mut W,
 ) -> Result<(), WriteFault>
     requires { counted.number < length lts.now.labels }
     ensures { Wrote (W.taken out.old) (W.taken out.new) result
-        (counted_line lts.now.labels (option_map (λ f. normal_nodes f.now) form.entry) counted) }
+        (counted_line lts.now.labels (nodes_of nodes.now) counted) }
 {
     let label = lts.label(counted.number);
     put_pieces(
@@ -149,7 +146,7 @@ fn put_label<W: Sink>(
             Piece::Bytes(label.bytes),
         ],
     )?;
-    put(out, end_of_line(is_taken(form, &label)))
+    put(out, end_of_line(is_taken(nodes, &label)))
 }
 
 /// What stands behind a label.
@@ -159,14 +156,11 @@ fn end_of_line(taken: bool) -> &'static [u8]
     if taken { b"\" taken\n" } else { b"\"\n" }
 }
 
-/// Whether there is a normal form, and one of its nodes takes the label.
-fn is_taken(form: Option<&Normal>, label: &LabelView<'_>) -> bool
-    ensures { result ≡ is_taken (option_map (λ f. normal_nodes f.now) form.entry) label.now.bytes.now }
+/// Whether one of the nodes has an action formula that holds of the label.
+fn is_taken(nodes: &[Node], label: &LabelView<'_>) -> bool
+    ensures { result ≡ list_any (λ node. has_label label.now.bytes.now (shape_of node.kind)) nodes.now }
 {
-    match form {
-        Some(form) => form.nodes().iter().any(|node| has_label(node, label)),
-        None => false,
-    }
+    nodes.iter().any(|node| has_label(node, label))
 }
 
 /// Whether the node has an action formula that holds of the label.
