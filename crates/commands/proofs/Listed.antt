@@ -1,14 +1,12 @@
 -- What is told of labels whose system or formula is refused.
 use Rattle.std.proofs.Common.{◌≡◌, ℕ, List, [], Option, Some, None, refl}
 use Rattle.std.specs.Prelude.{option_map}
-use Rattle.systems.specs.System.{System}
 use Rattle.text.proofs.Writing.{Stays-refl}
 use Rattle.text.specs.Taken.{Taken}
-use Rattle.forms.specs.Nodes.{Node}
-use Rattle.requests.specs.Check.{BySets, RefusesCheck, SpellsSystem}
+use Rattle.requests.specs.Check.{BySets, RefusesCheck}
 use Rattle.requests.specs.declared.error.MuError.{MuError}
 use Rattle.requests.specs.declared.error.MuError.TheVariants as error
-use Rattle.commands.specs.Labels.{AreGiven, RefusesLabels}
+use Rattle.commands.specs.Labels.{RefusesLabels}
 
 -- It is what a check tells that makes no game and lends no writer.
 pub refused_texts : (first second : List ℕ) (held : Taken) (e : MuError) → RefusesCheck BySets first second [] e → RefusesLabels first (Some second) held held e
@@ -17,11 +15,6 @@ refused_texts first second held (error.System e) h = (h.0, Stays-refl held)
 refused_texts first second held (error.Normal e) h = absurd h.0.beyond
 refused_texts first second held (error.Write e) h = absurd h.begun
 refused_texts first second held e h = (h, Stays-refl held)
-
--- the first text spells a system
-pub spelled_given : (first : List ℕ) (second : Option (List ℕ)) (l : System) (form : List Node) → AreGiven first second l form → SpellsSystem first
-spelled_given first None l form given = (l, given.0.spelled)
-spelled_given first (Some second) l form given = (l, given.1.system.spelled)
 
 -- a text is left of the formula that there is
 pub text_given : {S : Type 0} (left : S → Option (List ℕ)) (formula : Option S) (f : S) (second : Option (List ℕ)) → formula ≡ Some f

@@ -1,8 +1,7 @@
 -- Labels in the order of how many transitions have them.
-use Rattle.std.proofs.Common.{◌≡◌, ◌≢◌, ℕ, zero, suc, ◌+◌, ◌<◌, ◌≤◌, inl, inr, Bool, true, false, cond, List, [], ◌∷◌, ◌++◌, length, map, get_or, set, take, refl}
-use Rattle.std.proofs.Common.{sym, ap, ap₂, ◌∙◌, subst, arith, Ordering, Less, Equal, Greater, get_or-set_same, get_or-set_other, nat_eq}
+use Rattle.std.proofs.Common.{◌≡◌, ◌≢◌, ℕ, ◌+◌, ◌<◌, ◌≤◌, inl, inr, Bool, true, false, cond, List, [], ◌∷◌, length, map, get_or, set, take, refl}
+use Rattle.std.proofs.Common.{sym, ap, ap₂, ◌∙◌, subst, arith, Ordering, Less, Equal, Greater, get_or-set_same, get_or-set_other}
 use Rattle.std.specs.Prelude.{◌==◌, ◌||◌, count_by}
-use Rattle.std.specs.Cmp.{IsTotalOrder}
 use Rattle.std.specs.List.{All, AllByRecursion, Contains, flat_map, list_any, range_with_len}
 use Rattle.std.specs.List.Sorted.{IsPermutation, IsSorted}
 use Rattle.std.specs.Ordering.{is_lt, nat_cmp, ordering_reverse, ordering_then}
@@ -20,14 +19,14 @@ use Rattle.std.proofs.lemmas.Slice.Eq.{bytes_eq-Decides}
 use Rattle.std.proofs.lemmas.Option.{get_or_from_slice_get, slice_get_within}
 use Rattle.text.specs.Wrote.{lines_from}
 use Rattle.systems.specs.Label.{bytes_cmp}
-use Rattle.systems.specs.Numbered.{Numbered, AreAscending, AreUsed, IsInside, IsTransitionOf, arrow_of, label_at}
+use Rattle.systems.specs.Numbered.{Numbered, AreAscending, AreUsed, IsInside, arrow_of, label_at}
 use Rattle.systems.specs.System.{Arrow}
 use Rattle.systems.specs.declared.system.Transition.{Transition}
 use Rattle.forms.specs.Nodes.{Node}
 use Rattle.forms.specs.View.{nodes_of, shape_of}
 use Rattle.forms.specs.declared.node.Node as declared
 use Rattle.lts.proofs.Listed.{listed}
-use Rattle.commands.specs.Labels.{AreRanked, has_label, is_taken, label_line, rank_cmp, times_of}
+use Rattle.commands.specs.Labels.{IsLabelsText, has_label, is_taken, label_line, rank_cmp, times_of}
 use Rattle.commands.specs.Ranking.{AreCounted, IsCounted, IsRanking, counted_at, counted_line_at, counted_line_of, times_among}
 use Rattle.commands.specs.declared.label_counts.Counted.{Counted}
 
@@ -214,6 +213,10 @@ module _ (l : Numbered) (ts : List Transition) (up : AreAscending l.labels) (ins
 -- a line for each label
 abbrev pub lines_of : Numbered → List Node → List Counted → List ℕ
 lines_of l form counted = flat_map (λ label. label_line (times_of l.system label) label (is_taken form label)) (map (label_of l) counted)
+
+-- they are the text of the labels
+pub listed_by : (l : Numbered) (form : List Node) (counted : List Counted) → IsRanking l counted → IsLabelsText l.system form (lines_of l form counted)
+listed_by l form counted ranking = record { labels = map (label_of l) counted; ranked = ranking.ranked; lines = refl }
 
 -- the lines by number are all of them
 pub all_lines : (l : Numbered) (form : List Node) (counted : List Counted) → AreCounted l counted

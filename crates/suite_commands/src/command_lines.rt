@@ -340,7 +340,7 @@ static REPORTS: [(&str, &str); 16] = [
 ];
 
 /// Other commands.
-static OTHERS: [(&str, &str); 28] = [
+static OTHERS: [(&str, &str); 30] = [
     (
         "mucheck table s f - g",
         "table s f,-,g nested 1 16 auto false",

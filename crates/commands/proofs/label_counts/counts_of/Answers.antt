@@ -1,4 +1,4 @@
-use Rattle.std.proofs.Common.{◌<◌, List, get_or, subst, take_all, arith}
+use Rattle.std.proofs.Common.{◌<◌, List, subst, take_all, arith}
 use Rattle.std.proofs.lemmas.List.Elements.{All-from_recursion}
 use Rattle.systems.specs.declared.system.Transition.{Transition}
 use Rattle.commands.proofs.Ranked.{CountsSoFar, all_counts, count_low, counts_more}

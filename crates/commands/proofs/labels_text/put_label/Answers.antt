@@ -1,4 +1,4 @@
-use Rattle.std.proofs.Common.{◌≡◌, ◌∙◌, ◌∷◌, ◌++◌, [], ap, decimal, rules}
+use Rattle.std.proofs.Common.{◌≡◌, ◌∙◌, ◌∷◌, ◌++◌, ap, decimal, rules}
 use Rattle.systems.specs.Numbered.{label_at}
 use Rattle.forms.specs.View.{nodes_of}
 use Rattle.text.proofs.Writing.{Wrote-after, Wrote-as}
