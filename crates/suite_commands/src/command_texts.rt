@@ -1,4 +1,4 @@
-// What the commands `labels`, `normal`, `solve` and `verify` write and answer, and what they tell where a read or a write fails: the worked examples of
+// What the commands `labels`, `normal`, `solve` and `verify` write and answer, and what they tell where a read or a write fails: worked examples of
 // docs/FORMATS.md, and games that were solved by hand. tests/commands asks the built program for the same and for more, and for what is refused.
 
 use crate::common::{answers, cramped, holds, is_cut, is_written, ready};
