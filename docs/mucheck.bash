@@ -2,7 +2,7 @@
 # shellcheck shell=bash
 
 # The commands.
-_mucheck_commands() { echo check why table normal solve verify replay explain help version; }
+_mucheck_commands() { echo check why table labels normal solve verify replay explain help version; }
 
 # The options of a command.
 _mucheck_options() {
@@ -14,7 +14,7 @@ _mucheck_options() {
     normal) echo "--priorities --help" ;;
     solve) echo "--evidence --stats $lifting --help" ;;
     replay) echo "--workers --help" ;;
-    verify | explain | help | version) echo "--help" ;;
+    labels | verify | explain | help | version) echo "--help" ;;
     *) echo "--help --version" ;;
   esac
 }

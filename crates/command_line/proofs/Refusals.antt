@@ -8,6 +8,7 @@ use Rattle.clap.specs.Words.{App, Row, Text, first_of, takes}
 use Rattle.requests.specs.declared.error.MuError.{MuError}
 use Rattle.requests.specs.declared.error.MuError.TheVariants as error
 use Rattle.requests.specs.declared.request.Check.{Check as CheckRequest}
+use Rattle.invocation.specs.declared.request.Labels.{Labels as LabelsRequest}
 use Rattle.requests.specs.declared.request.Normalize.{Normalize}
 use Rattle.requests.specs.declared.request.ReportForm.{ReportForm}
 use Rattle.requests.specs.declared.request.ReportForm.TheVariants.{States}
@@ -16,12 +17,12 @@ use Rattle.requests.specs.declared.request.Solve.{Solve as SolveRequest}
 use Rattle.requests.specs.declared.request.Verify.{Verify as VerifyRequest}
 use Rattle.requests.specs.declared.request.Why.{Why as WhyRequest}
 use Rattle.invocation.specs.declared.request.Command.{Command}
-use Rattle.invocation.specs.declared.request.Command.TheVariants.{Check, Explain, Help, Normal, Replay, Solve, Table, Verify, Version, Why}
+use Rattle.invocation.specs.declared.request.Command.TheVariants.{Check, Explain, Help, Labels, Normal, Replay, Solve, Table, Verify, Version, Why}
 use Rattle.invocation.specs.declared.request.Outputs.{Outputs}
 use Rattle.invocation.specs.Command.{IsComplete, IsForSome, IsPlainAlone, is_named}
 use Rattle.command_line.specs.CommandLine.{AreOutputs, IsCheck, IsCommand, IsFile, IsFileIfAny, IsNormal, IsNumberIfAny, IsNumberOf, IsNumberOr}
 use Rattle.command_table.specs.Table.{IsCommandTable}
-use Rattle.command_line.specs.CommandLine.{AsksReplay, IsSolve, IsVerify, IsWhy, answer_word, form_by, stands}
+use Rattle.command_line.specs.CommandLine.{AsksLabels, AsksReplay, IsSolve, IsVerify, IsWhy, answer_word, form_by, stands}
 use Rattle.invocation.specs.Refused.{IfArguments}
 use Rattle.command_line.specs.Refusals.{AsksForNone, AsksNoForm, IsNoAnswer, IsUntaken}
 
@@ -63,6 +64,7 @@ abbrev key_of : Command → ℕ
 key_of (Check check outputs) = key (codes "check")
 key_of (Why why) = key (codes "why")
 key_of (Table table) = key (codes "table")
+key_of (Labels labels) = key (codes "labels")
 key_of (Normal form) = key (codes "normal")
 key_of (Solve solve) = key (codes "solve")
 key_of (Verify verify) = key (codes "verify")
@@ -75,6 +77,7 @@ key_is : (name : Text) (rows : List Row) (command : Command) → IsCommand name 
 key_is name rows (Check check outputs) is = ap key is.0
 key_is name rows (Why why) is = ap key is.0
 key_is name rows (Table table) is = ap key is.0
+key_is name rows (Labels labels) is = ap key is.0
 key_is name rows (Normal form) is = ap key is.0
 key_is name rows (Solve solve) is = ap key is.0
 key_is name rows (Verify verify) is = ap key is.0
@@ -95,6 +98,11 @@ pub only_why : (rows : List Row) → ((why : WhyRequest) → IsWhy rows why → 
 only_why rows none (Why why) is complete plain = none why is.1 complete
 only_why rows none command is complete plain =
     let other : key (codes "why") ≡ key_of command = key_is (codes "why") rows command is in absurd (omega arith)
+
+pub only_labels : (rows : List Row) → ((labels : LabelsRequest) → AsksLabels rows labels → IsComplete (Labels labels) → ⊥) → AsksForNone (codes "labels") rows
+only_labels rows none (Labels labels) is complete plain = none labels is.1 complete
+only_labels rows none command is complete plain =
+    let other : key (codes "labels") ≡ key_of command = key_is (codes "labels") rows command is in absurd (omega arith)
 
 pub only_normal : (rows : List Row) → ((form : Normalize) → IsNormal rows form → IsComplete (Normal form) → ⊥) → AsksForNone (codes "normal") rows
 only_normal rows none (Normal form) is complete plain = none form is.1 complete

@@ -18,7 +18,8 @@ use Rattle.requests.specs.declared.request.ReportForm.TheVariants.{Whole, Summar
 use Rattle.requests.specs.declared.request.Table.{Table as TableRequest}
 use Rattle.requests.specs.declared.request.Why.{Why as WhyRequest}
 use Rattle.invocation.specs.declared.request.Command.{Command}
-use Rattle.invocation.specs.declared.request.Command.TheVariants.{Check, Explain, Help, Normal, Replay, Solve, Table, Verify, Version, Why}
+use Rattle.invocation.specs.declared.request.Command.TheVariants.{Check, Explain, Help, Labels, Normal, Replay, Solve, Table, Verify, Version, Why}
+use Rattle.invocation.specs.declared.request.Labels.{Labels as LabelsRequest}
 use Rattle.requests.specs.declared.request.Normalize.{Normalize}
 use Rattle.invocation.specs.declared.request.Outputs.{Outputs}
 use Rattle.requests.specs.declared.request.Replay.{Replay as ReplayRequest}
@@ -137,6 +138,10 @@ pub record AreOutputs (rows : List Row) (outputs : Outputs) : Type 0 where
   pub report : IsReportForm rows outputs.report
   pub stats : outputs.stats ≡ stands rows (codes "stats")
 
+pub record AsksLabels (rows : List Row) (labels : LabelsRequest) : Type 0 where
+  pub system : IsFile rows (codes "SYSTEM") labels.system
+  pub formula : IsFileIfAny rows (codes "FORMULA") labels.formula
+
 pub record IsNormal (rows : List Row) (form : Normalize) : Type 0 where
   pub formula : IsFile rows (codes "FORMULA") form.formula
   pub priorities : form.priorities ≡ priorities_in rows
@@ -163,6 +168,7 @@ abbrev pub IsCommand : (name : Text) → List Row → Command → Type 0
 IsCommand name rows (Check check outputs) = (name ≡ codes "check") × IsCheck rows check × AreOutputs rows outputs
 IsCommand name rows (Why why) = (name ≡ codes "why") × IsWhy rows why
 IsCommand name rows (Table table) = (name ≡ codes "table") × IsTableRequest rows table
+IsCommand name rows (Labels labels) = (name ≡ codes "labels") × AsksLabels rows labels
 IsCommand name rows (Normal form) = (name ≡ codes "normal") × IsNormal rows form
 IsCommand name rows (Solve solve) = (name ≡ codes "solve") × IsSolve rows solve
 IsCommand name rows (Verify verify) = (name ≡ codes "verify") × IsVerify rows verify

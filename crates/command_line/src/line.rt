@@ -54,7 +54,7 @@ use command_table::parser::{
 use forms::priorities::Priorities;
 use invocation::inputs::read_once;
 use invocation::names::keep_files;
-use invocation::request::{Command, Outputs};
+use invocation::request::{Command, Labels, Outputs};
 use requests::error::{ArgumentError, MuError};
 use requests::request::{
     BoardKind, Check, Normalize, Options, Replay, ReportForm, Solve, Table, Verify, Why,
@@ -140,6 +140,7 @@ fn other_of<'a>(name: &str, found: &ArgMatches<'a>) -> Result<Command<'a>, Argum
     match name {
         "check" => check_of(found),
         "why" => why_of(found),
+        "labels" => labels_of(found),
         "normal" => normal_of(found),
         "solve" => solve_of(found),
         "verify" => verify_of(found),
@@ -290,6 +291,19 @@ fn why_of<'a>(matches: &ArgMatches<'a>) -> Result<Command<'a>, ArgumentError>
         formula: file_name(matches, FORMULA)?,
         options: options(matches)?,
         strict: has_value(matches, STRICT, "true"),
+    }))
+}
+
+/// The labels that the matches of its command ask for.
+fn labels_of<'a>(matches: &ArgMatches<'a>) -> Result<Command<'a>, ArgumentError>
+    ensures asked { IfOk result (IsCommand (codes "labels") (rows_of (found_of matches.now))) }
+    ensures complete { IfOk result IsComplete }
+    ensures plain { IfOk result IsPlainAlone }
+    ensures only { IfErr result (λ _. AsksForNone (codes "labels") (rows_of (found_of matches.now))) }
+{
+    Ok(Command::Labels(Labels {
+        system: file_name(matches, SYSTEM)?,
+        formula: optional_name(matches, FORMULA)?,
     }))
 }
 

@@ -94,6 +94,9 @@ table_rules rules boards =
     file_rule (codes "SYSTEM") ∷ files_rule (codes "FORMULA") ∷ flag_rule (codes "plain") ∷ flag_rule (codes "strict") ∷ flag_rule (codes "stats")
     ∷ priorities_rule rules ∷ lifting_rules boards
 
+abbrev pub labels_rules : List Rule
+labels_rules = file_rule (codes "SYSTEM") ∷ new_rule (codes "FORMULA") ∷ []
+
 abbrev pub normal_rules : (rules : Choice) → List Rule
 normal_rules rules = file_rule (codes "FORMULA") ∷ priorities_rule rules ∷ []
 
@@ -127,6 +130,7 @@ mucheck_app rules boards answers = record {
   subs = command_shape (codes "check") (check_rules rules boards answers)
       ∷ command_shape (codes "why") (why_rules rules boards)
       ∷ command_shape (codes "table") (table_rules rules boards)
+      ∷ command_shape (codes "labels") labels_rules
       ∷ command_shape (codes "normal") (normal_rules rules)
       ∷ command_shape (codes "solve") (solve_rules boards)
       ∷ command_shape (codes "verify") verify_rules

@@ -12,6 +12,7 @@ ghost use Rattle.command_table.specs.Table.{
   files_rule,
   flag_rule,
   help_rules,
+  labels_rules,
   lifting_rules,
   limit_rule,
   normal_rules,
@@ -128,6 +129,15 @@ is as expected (yes where nothing is said), else 1, or 2 or 3 as of check where 
 refused: the greatest of them.\n\n\
 Example:\n  mucheck table examples/first/system.aut examples/first/formula.mcf";
 
+const LABELS_ABOUT: &str = "Lists the labels of a system, the most frequent first";
+
+const LABELS_AFTER: &str =
+    "For each label a line goes to the standard output: how many transitions have it, and the label\n\
+in quotes, as a formula quotes it. With a formula, behind each label that it takes stands taken:\n\
+an action formula in one of its modalities holds of it. The status is 0, or 2 where an argument\n\
+or a text is refused, and 3 where memory, a file, a read or a write failed.\n\n\
+Example:\n  mucheck labels examples/first/system.aut examples/first/formula.mcf";
+
 const NORMAL_ABOUT: &str = "Writes the normal form of a formula, a line for each node";
 
 const NORMAL_AFTER: &str =
@@ -181,6 +191,8 @@ const VERSION_AFTER: &str = "The version goes to the standard output, and the st
 const SYSTEM_HELP: &str = "The system's file, in the Aldebaran format (.aut)";
 
 const FORMULA_HELP: &str = "The formula's file, in the mu-calculus format (.mcf)";
+
+const LABELS_FORMULA_HELP: &str = "The file of a formula, to tell which of the labels it takes";
 
 const FORMULAS_HELP: &str = "The formulas' files, in the mu-calculus format (.mcf)";
 
@@ -249,6 +261,7 @@ pub fn parser<'a>(alloc: Global, version: &'a str) -> Result<Parser<'a>, AllocEr
     let parser = with_command(Ok(parser), check_parser(alloc, rules, boards, answers));
     let parser = with_command(parser, why_parser(alloc, rules, boards));
     let parser = with_command(parser, table_parser(alloc, rules, boards));
+    let parser = with_command(parser, labels_parser(alloc));
     let parser = with_command(parser, normal_parser(alloc, rules));
     let parser = with_command(parser, solve_parser(alloc, boards));
     let parser = with_command(parser, verify_parser(alloc));
@@ -338,6 +351,14 @@ fn table_parser<'a>(
     let parser = with_arg(parser, flag(alloc, STATS, STATS_HELP));
     let parser = with_arg(parser, rule(alloc, rules));
     with_workers(alloc, parser, boards)
+}
+
+fn labels_parser<'a>(alloc: Global) -> Result<Parser<'a>, AllocError>
+    ensures { IfOk result (ReadsBy (command_app (codes "labels") labels_rules)) }
+{
+    let parser = Ok(described(alloc, "labels", LABELS_ABOUT, LABELS_AFTER));
+    let parser = with_arg(parser, file(alloc, SYSTEM, SYSTEM_HELP));
+    with_arg(parser, Arg::new(alloc, FORMULA).help(LABELS_FORMULA_HELP))
 }
 
 fn normal_parser<'a>(alloc: Global, rules: &'a [&'a str]) -> Result<Parser<'a>, AllocError>

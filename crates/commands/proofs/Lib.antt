@@ -4,3 +4,5 @@ mod Judged
 mod Replayed
 mod Solving
 mod Caused
+mod Ranked
+mod Listed

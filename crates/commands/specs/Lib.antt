@@ -1,6 +1,8 @@
 pub mod Causes
 pub mod Spelled
 pub mod Prints
+pub mod Labels
+pub mod Ranking
 pub mod Winners
 pub mod Solves
 pub mod Verifies

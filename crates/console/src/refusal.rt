@@ -73,6 +73,7 @@ pub fn sources_of<'a>(command: &Command<'a>) -> Sources<'a> {
         Command::Check(check, _) => [Some(check.system), Some(check.formula), None, None],
         Command::Why(why) => [Some(why.system), Some(why.formula), None, None],
         Command::Table(table) => [Some(table.system), None, None, None],
+        Command::Labels(labels) => [Some(labels.system), labels.formula, None, None],
         Command::Normal(normal) => [None, Some(normal.formula), None, None],
         Command::Solve(solve) => [Some(solve.game), None, None, None],
         Command::Verify(verify) => [Some(verify.game), None, Some(verify.evidence), verify.other],

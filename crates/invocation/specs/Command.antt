@@ -7,7 +7,7 @@ use Rattle.requests.specs.declared.request.ReportForm.{ReportForm}
 use Rattle.requests.specs.declared.request.ReportForm.TheVariants.{States}
 use Rattle.invocation.specs.declared.request.Outputs.{Outputs}
 use Rattle.invocation.specs.declared.request.Command.{Command}
-use Rattle.invocation.specs.declared.request.Command.TheVariants.{Check, Explain, Help, Normal, Replay, Solve, Table, Verify, Version, Why}
+use Rattle.invocation.specs.declared.request.Command.TheVariants.{Check, Explain, Help, Labels, Normal, Replay, Solve, Table, Verify, Version, Why}
 
 -- the numbers of workers and of shards are within the limits
 abbrev pub AreWithin : Options → Type 0
@@ -38,6 +38,7 @@ IsComplete (Check check outputs) = (check.system.now ≢ []) × (check.formula.n
     × IsForSome outputs.report
 IsComplete (Why why) = (why.system.now ≢ []) × (why.formula.now ≢ []) × AreWithin why.options
 IsComplete (Table table) = (table.system.now ≢ []) × AreAllNamed table.formulas.items × AreWithin table.options
+IsComplete (Labels labels) = (labels.system.now ≢ []) × IfSome labels.formula (λ name. name.now ≢ [])
 IsComplete (Normal form) = form.formula.now ≢ []
 IsComplete (Solve solve) = (solve.game.now ≢ []) × AreWithin solve.options × IfSome solve.evidence (λ name. name.now ≢ [])
 IsComplete (Verify verify) = (verify.game.now ≢ []) × (verify.evidence.now ≢ []) × IfSome verify.other (λ name. name.now ≢ [])

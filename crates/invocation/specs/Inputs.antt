@@ -3,7 +3,7 @@ use Rattle.std.specs.Prelude.{ℕ, ◌≤◌, Bool, List, [], ◌∷◌, Option,
 use Rattle.std.specs.Borrow.{Bor}
 use Rattle.std.specs.Str.{bytes_eq}
 use Rattle.invocation.specs.declared.request.Command.{Command}
-use Rattle.invocation.specs.declared.request.Command.TheVariants.{Check, Explain, Help, Normal, Replay, Solve, Table, Verify, Version, Why}
+use Rattle.invocation.specs.declared.request.Command.TheVariants.{Check, Explain, Help, Labels, Normal, Replay, Solve, Table, Verify, Version, Why}
 
 -- `-` names it
 abbrev pub is_standard_input : List ℕ → Bool
@@ -18,6 +18,7 @@ abbrev pub inputs_of : Command → List (Bor (List ℕ))
 inputs_of (Check check outputs) = check.system ∷ check.formula ∷ []
 inputs_of (Why why) = why.system ∷ why.formula ∷ []
 inputs_of (Table table) = table.system ∷ table.formulas.items
+inputs_of (Labels labels) = labels.system ∷ if_any labels.formula
 inputs_of (Normal form) = form.formula ∷ []
 inputs_of (Solve solve) = solve.game ∷ []
 inputs_of (Verify verify) = verify.game ∷ verify.evidence ∷ if_any verify.other

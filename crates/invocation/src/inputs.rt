@@ -20,6 +20,10 @@ pub fn read_once(command: &Command<'_>) -> Result<(), MuError>
         Command::Check(check, _) => once(&[check.system, check.formula]),
         Command::Why(why) => once(&[why.system, why.formula]),
         Command::Table(table) => once_beside(table.system, &table.formulas),
+        Command::Labels(labels) => match labels.formula {
+            None => once(&[labels.system]),
+            Some(formula) => once(&[labels.system, formula]),
+        },
         Command::Normal(form) => once(&[form.formula]),
         Command::Solve(solve) => once(&[solve.game]),
         Command::Verify(verify) => match verify.other {

@@ -12,6 +12,7 @@ pub enum Command<'a> {
     Check(Check<'a>, Outputs<'a>),
     Why(Why<'a>),
     Table(Table<'a>),
+    Labels(Labels<'a>),
     Normal(Normalize<'a>),
     Solve(Solve<'a>),
     Verify(Verify<'a>),
@@ -21,6 +22,13 @@ pub enum Command<'a> {
     /// The help of a command, or of the program.
     Help(Option<&'a str>),
     Version,
+}
+
+/// The labels of a system, and which of them a formula takes.
+#[derive(Clone, Copy)]
+pub struct Labels<'a> {
+    pub system: &'a str,
+    pub formula: Option<&'a str>,
 }
 
 /// Where a check's texts go.

@@ -22,7 +22,7 @@ use engines::status::{error_status, status_of_answer};
 use invocation::request::Command;
 use lts::put;
 use runs::solve::run_solve;
-use runs::texts::{run_normal, run_replay, run_verify};
+use runs::texts::{run_labels, run_normal, run_replay, run_verify};
 use std::env;
 use std::io::ErrorKind;
 use std::process::ExitCode;
@@ -78,6 +78,7 @@ fn run_command<T: Threads + Wait + Clock + Clone + Copy + Drop + Send + Sync + '
         Command::Check(request, outputs) => run_check(rt, threads, request, outputs),
         Command::Why(request) => run_why(rt, threads, request),
         Command::Table(request) => return run_table(rt, threads, request),
+        Command::Labels(request) => run_labels(rt, threads, request),
         Command::Normal(request) => run_normal(rt, threads, request),
         Command::Solve(request) => run_solve(rt, threads, request),
         Command::Verify(request) => run_verify(rt, threads, request),

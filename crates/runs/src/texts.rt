@@ -1,5 +1,6 @@
-// The commands `normal`, `verify` and `replay`, which write to standard output alone.
+// The commands `labels`, `normal`, `verify` and `replay`, which write to standard output alone.
 
+use commands::labels_text::labels_text;
 use commands::normal_text::normal_asked;
 use commands::replay_text::replay_asked;
 use commands::verify_text::{verify_both_text, verify_text};
@@ -8,10 +9,34 @@ use console::line::ProgressLine;
 use console::output::Output;
 use console::refusal::Refusal;
 use console::stats::Stats;
+use invocation::request::Labels;
 use requests::request::{Normalize, Replay, Verify};
 use std::sync::Wait;
 use std::thread::Threads;
 use std::time::Clock;
+
+/// Lists the labels of a system, and answers true. Both files are opened, in the order of the command line, before the first is read.
+///
+/// # Errors
+/// U2, and those of `labels_text`.
+pub fn run_labels<T: Threads + Wait + Clock + Clone + Copy + Drop + Send + Sync + 'static>(
+    rt: &HostRuntime,
+    threads: &T,
+    request: &Labels<'_>,
+) -> Result<bool, Refusal> {
+    let system = open(rt, request.system)?;
+    let formula = match request.formula {
+        None => None,
+        Some(name) => Some(open(rt, name)?),
+    };
+    let hasher = label_hasher(rt)?;
+    let line = ProgressLine::new(*rt, threads, Stats::Nothing, None);
+    let mut out = Output::new(*rt, &line);
+    let answer = labels_text(rt.alloc(), hasher, system, formula, &mut out);
+    let answer = out.conclude(answer);
+    drop(line);
+    answer
+}
 
 /// Writes the normal form of a formula, and answers true.
 ///

@@ -6,7 +6,7 @@ use command_line::information::{explanation, help_text, version_text};
 use command_line::line::command;
 use forms::priorities::Priorities;
 use invocation::names::is_drawing;
-use invocation::request::{Command, Outputs};
+use invocation::request::{Command, Labels, Outputs};
 use requests::error::MuError;
 use requests::request::{
     BoardKind, Check, Normalize, Options, Replay, ReportForm, Solve, Table, Verify, Why,
@@ -157,6 +157,13 @@ fn add_replay(text: &mut String, replay: &Replay<'_>) -> Result<(), AllocError> 
     Ok(())
 }
 
+fn add_labels(text: &mut String, labels: &Labels<'_>) -> Result<(), AllocError> {
+    add(
+        text,
+        &["labels", labels.system, labels.formula.unwrap_or("-")],
+    )
+}
+
 fn add_normal(text: &mut String, form: &Normalize<'_>) -> Result<(), AllocError> {
     add(text, &["normal", form.formula])?;
     add(text, &[rule_of(form.priorities)])
@@ -176,6 +183,7 @@ fn add_command(text: &mut String, command: &Command<'_>) -> Result<(), AllocErro
         Command::Check(check, outputs) => add_check(text, check, outputs),
         Command::Why(why) => add_why(text, why),
         Command::Table(table) => add_table(text, table),
+        Command::Labels(labels) => add_labels(text, labels),
         Command::Normal(form) => add_normal(text, form),
         Command::Solve(solve) => add_solve(text, solve),
         Command::Verify(verify) => add_verify(text, verify),
@@ -332,7 +340,7 @@ static REPORTS: [(&str, &str); 16] = [
 ];
 
 /// Other commands.
-static OTHERS: [(&str, &str); 28] = [
+static OTHERS: [(&str, &str); 30] = [
     (
         "mucheck table s f - g",
         "table s f,-,g nested 1 16 auto false",
@@ -378,6 +386,8 @@ static OTHERS: [(&str, &str); 28] = [
     ("mucheck help", "help -"),
     ("mucheck help check", "help check"),
     ("mucheck version", "version"),
+    ("mucheck labels s", "labels s -"),
+    ("mucheck labels s f", "labels s f"),
     ("mucheck normal f", "normal f nested"),
     ("mucheck normal f --priorities nested", "normal f nested"),
     (

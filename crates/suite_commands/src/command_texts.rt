@@ -1,7 +1,8 @@
-// What the commands `normal`, `solve` and `verify` write and answer, and what they tell where a read or a write fails: the worked examples of
+// What the commands `labels`, `normal`, `solve` and `verify` write and answer, and what they tell where a read or a write fails: worked examples of
 // docs/FORMATS.md, and games that were solved by hand. tests/commands asks the built program for the same and for more, and for what is refused.
 
 use crate::common::{answers, cramped, holds, is_cut, is_written, ready};
+use commands::labels_text::labels_text;
 use commands::normal_text::{normal_asked, normal_text};
 use commands::solve_text::solve_text;
 use commands::verify_text::{verify_both_text, verify_text};
@@ -13,6 +14,7 @@ use forms::priorities::Priorities;
 use requests::error::MuError;
 use requests::request::{BoardKind, Normalize, Options};
 use samples::readers::Slow;
+use samples::texts::unseeded;
 use samples::writers::{AMPLE, Narrow};
 use std::alloc::Global;
 use std::io::Write;
@@ -30,6 +32,7 @@ const OPTIONS: Options = Options {
 /// A command with its texts.
 #[derive(Clone, Copy)]
 enum Asked<'a> {
+    Labels(&'a str, Option<&'a str>),
     Normal(&'a str, Priorities),
     Solve(&'a str),
     Verify(&'a str, &'a str),
@@ -43,6 +46,7 @@ fn run<W: Write, H: Threads + Wait + AllocGlobal + Clone + Copy + Drop + Send + 
 ) -> Result<bool, MuError> {
     let alloc = rt.alloc();
     match asked {
+        Asked::Labels(system, formula) => run_labels(alloc, system, *formula, out),
         Asked::Normal(formula, rule) => run_normal(alloc, formula, *rule, out),
         Asked::Solve(game) => solve_text(rt, alloc, game.as_bytes(), &OPTIONS, out),
         Asked::Verify(game, evidence) => {
@@ -50,6 +54,16 @@ fn run<W: Write, H: Threads + Wait + AllocGlobal + Clone + Copy + Drop + Send + 
         }
         Asked::Both(game, first, second) => run_both(alloc, game, first, second, out),
     }
+}
+
+fn run_labels<W: Write>(
+    alloc: Global,
+    system: &str,
+    formula: Option<&str>,
+    out: &mut W,
+) -> Result<bool, MuError> {
+    let formula = formula.map(|formula| formula.as_bytes());
+    labels_text(alloc, unseeded(), system.as_bytes(), formula, out)
 }
 
 fn run_normal<W: Write>(
@@ -88,7 +102,40 @@ fn tells<H: Abort + Threads + Wait + AllocGlobal + Clone + Copy + Drop + Send + 
     is_written(rt, text, &out);
 }
 
-static TOLD: [(Asked<'static>, &str, &str); 15] = [
+/// Six transitions, three of them with one label.
+const BLANKS: &str =
+    "des (0,6,3)\n(0,\"a\",1)\n(0,\"b c\",1)\n(0,\"b c\",2)\n(1,\"b c\",0)\n(1,\"a\",2)\n(2,\"tau\",2)\n";
+
+/// Four transitions, one of which stands twice; two labels are as frequent.
+const TWICE: &str =
+    "des (1,5,2)\n(0,\"s|r\",1)\n(0,\"s|r\",1)\n(0,\"\\b\",1)\n(0,\"a\",1)\n(1,\"a\",1)\n";
+
+static TOLD: [(Asked<'static>, &str, &str); 20] = [
+    (
+        Asked::Labels(BLANKS, None),
+        "3 \"b c\"\n2 \"a\"\n1 \"tau\"\n",
+        "yes",
+    ),
+    (
+        Asked::Labels(BLANKS, Some("<a>true && [!\"b c\"]<tau>true")),
+        "3 \"b c\"\n2 \"a\" taken\n1 \"tau\" taken\n",
+        "yes",
+    ),
+    (
+        Asked::Labels(TWICE, Some("mu X. (<r|s>X || [\"\\b\" + b]false)")),
+        "2 \"a\"\n1 \"\\b\" taken\n1 \"s|r\" taken\n",
+        "yes",
+    ),
+    (
+        Asked::Labels(TWICE, Some("nu X. X")),
+        "2 \"a\"\n1 \"\\b\"\n1 \"s|r\"\n",
+        "yes",
+    ),
+    (
+        Asked::Labels("des (0,0,1)\n", Some("<true>true")),
+        "",
+        "yes",
+    ),
     (
         Asked::Normal("<a + + b>true", Priorities::Nested),
         "nodes 9 priority 1 depth 1\n0 or 0 1 7\n1 dia 0 2 a\n2 mu 1 3\n3 or 0 4 5\n4 true 0\n5 dia 0 6 a\n6 var 0 2\n7 dia 0 8 b\n8 true 0\n",
@@ -218,6 +265,26 @@ fn formula_is_unread(rt: &(impl Abort + AllocGlobal), given: usize, out: &mut Ve
     holds(rt, "normal", matches!(&answer, Err(MuError::Read)));
 }
 
+/// Of a system whose labels are listed.
+fn listed_is_unread(rt: &(impl Abort + AllocGlobal), given: usize, out: &mut Vec<u8>) {
+    let none: Option<&[u8]> = None;
+    let answer = labels_text(
+        rt.alloc(),
+        unseeded(),
+        failing_reader(BLANKS, given),
+        none,
+        out,
+    );
+    answers(rt, "labels", &answer, "A8");
+}
+
+/// Of the formula beside it.
+fn beside_is_unread(rt: &(impl Abort + AllocGlobal), given: usize, out: &mut Vec<u8>) {
+    let formula = Some(failing_reader("<a>true", given));
+    let answer = labels_text(rt.alloc(), unseeded(), BLANKS.as_bytes(), formula, out);
+    answers(rt, "formula of labels", &answer, "U3");
+}
+
 /// Of a game that is solved.
 fn solved_is_unread<H: Abort + Threads + Wait + AllocGlobal + Clone + Copy + Drop + Send + Sync>(
     rt: &H,
@@ -257,6 +324,8 @@ fn is_unread<H: Abort + Threads + Wait + AllocGlobal + Clone + Copy + Drop + Sen
 ) {
     let mut out = Vec::new(rt.alloc());
     formula_is_unread(rt, given, &mut out);
+    listed_is_unread(rt, given, &mut out);
+    beside_is_unread(rt, given, &mut out);
     solved_is_unread(rt, given, &mut out);
     game_is_unread(rt, given, &mut out);
     evidence_is_unread(rt, given, &mut out);

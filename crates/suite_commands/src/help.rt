@@ -10,6 +10,7 @@ Commands:
   check    Reports for each state of a system whether it satisfies a formula
   why      Tells why a system satisfies a formula, or why it does not
   table    Reports for each of many formulas whether a system satisfies it
+  labels   Lists the labels of a system, the most frequent first
   normal   Writes the normal form of a formula, a line for each node
   solve    Writes for each vertex of a parity game who wins it
   verify   Checks evidence that a player wins vertices of a parity game
