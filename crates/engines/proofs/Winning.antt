@@ -170,18 +170,19 @@ shown_at x e t u nodes part at_t at_u chosen found win is same inside taken witn
     at_u witness)
 
 -- Visits that tell the play by such evidence are told, of the texts and the game as they are read off what was found.
-pub told_at : (x : Findings) (e : NamedEvidence) (g : Game) (t u : Texts) (nodes : List Node) (told : Told) → AreFindings x → IsWinning x e
+pub told_at : (x : Findings) (e : NamedEvidence) (g : Game) (t u : Texts) (nodes : List Node) (limit : ℕ) (told : Told) → AreFindings x → IsWinning x e
     → IsEvidence e.game e.evidence → g ≡ game_in x → t ≡ x.texts.value → u ≡ x.texts.value
     → nodes ≡ nodes_with x.solution.priorities (closed_formula t.formula)
-    → IsToldBy u.system.system nodes g e.evidence told → AreToldOf x told
-told_at x e g t u nodes told found win is at_g at_t at_u same by =
+    → IsToldBy u.system.system nodes g e.evidence limit told → AreToldOf x limit told
+told_at x e g t u nodes limit told found win is at_g at_t at_u same by =
     let rule = x.solution.priorities in
     let whole = subst (λ (y : Texts). nodes ≡ nodes_with rule (closed_formula y.formula)) at_t same in
-    let here = subst (λ (h : Game). IsToldBy (system_of x) nodes h e.evidence told) (at_g ∙ found.solution.game.same)
-    (subst (λ (y : Texts). IsToldBy y.system.system nodes g e.evidence told) at_u by) in
-    let all = subst (λ (ns : List Node). IsToldBy (system_of x) ns (arena (system_of x) (nodes_with rule (formula_found x))) e.evidence told) whole here in
+    let here = subst (λ (h : Game). IsToldBy (system_of x) nodes h e.evidence limit told) (at_g ∙ found.solution.game.same)
+    (subst (λ (y : Texts). IsToldBy y.system.system nodes g e.evidence limit told) at_u by) in
+    let all = subst (λ (ns : List Node). IsToldBy (system_of x) ns (arena (system_of x) (nodes_with rule (formula_found x))) e.evidence limit told) whole here in
     record {
       nodes = all.nodes;
+      most = all.most;
       lines = record {
         evidence = e.evidence;
         winners = winners_of x e found win is;

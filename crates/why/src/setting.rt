@@ -102,7 +102,7 @@ fn mark_head(kind: Kind, heads: &mut Vec<bool>)
     }
 }
 
-/// How many of the first visits have so many lines, or how many there are where the limit is 0.
+/// How many of the first visits have at most so many lines, or how many there are where the limit is 0.
 pub fn told_within(normal: &Normal, visits: &[Visit], heads: &[bool], limit: u32) -> usize
     ensures { IsCut (normal_nodes normal.now) visits.now heads.now limit result }
 {
@@ -111,11 +111,11 @@ pub fn told_within(normal: &Normal, visits: &[Visit], heads: &[bool], limit: u32
     }
     let mut lines = 0;
     for i in 0..visits.len() {
-        if lines >= u64::from(limit) {
-            return i;
-        }
         let head = heads.get(i).copied().unwrap_or(false);
         lines += lines_of(normal, visits.get(i).copied(), head);
+        if lines > u64::from(limit) {
+            return i;
+        }
     }
     visits.len()
 }

@@ -102,7 +102,7 @@ fn put_rest<W: Sink>(
     ensures { Wrote (W.taken out.old) (W.taken out.new) result (rest_text most count visits) }
 {
     if count < visits || most <= visits {
-        put(out, b"..\n")
+        put(out, b".. (--limit 0 tells all)\n")
     } else {
         Ok(())
     }
