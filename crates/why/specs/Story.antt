@@ -1,6 +1,7 @@
 -- The text of a telling.
 use Rattle.std.specs.Prelude.{◌≡◌, ℕ, zero, suc, ◌+◌, ◌≤◌, ◌≢◌, ◌-◌, ◌/◌, ◌%◌, Bool, true, false, not, ◌&&◌, ◌||◌, ◌==◌, List, [], ◌∷◌, ◌++◌, Option, None, Some, length, take, replicate, codes, decimal}
 use Rattle.std.specs.Prelude.{nat_le, nat_lt, slice_get, IsTrue, ◌↔◌, ◌⊎◌, ◌<◌, slice_index_or, if◌then◌else◌}
+use Rattle.std.specs.List.{list_any}
 use Rattle.std.specs.Option.{is_some}
 use Rattle.std.specs.Str.{bytes_eq}
 use Rattle.systems.specs.System.{Arrow, System}
@@ -182,8 +183,7 @@ is_branch _ = false
 
 -- Some run branches.
 abbrev pub has_branch : List Visit → Bool
-has_branch [] = false
-has_branch (v ∷ visits) = is_branch v.kind || has_branch visits
+has_branch visits = list_any (λ (v : Visit). is_branch v.kind) visits
 
 -- whether the initial state satisfies the formula, and what shows it
 abbrev pub verdict_text : (answer several : Bool) → List ℕ
