@@ -9,7 +9,7 @@ _mucheck_options() {
   local lifting="--workers --shards --board"
   case ${1-} in
     check) echo "--plain --strict --stats --quiet --summary --states --limit --priorities $lifting --game --evidence --witness --help" ;;
-    why) echo "--strict --priorities $lifting --help" ;;
+    why) echo "--strict --limit --priorities $lifting --help" ;;
     table) echo "--plain --strict --stats --priorities $lifting --help" ;;
     normal) echo "--priorities --help" ;;
     solve) echo "--evidence --stats $lifting --help" ;;

@@ -121,6 +121,7 @@ pub record IsWhy (rows : List Row) (why : WhyRequest) : Type 0 where
   pub system : IsFile rows (codes "SYSTEM") why.system
   pub formula : IsFile rows (codes "FORMULA") why.formula
   pub options : AreOptions rows why.options
+  pub limit : IsNumberIn rows (codes "limit") 200 why.limit
   pub strict : why.strict ≡ stands rows (codes "strict")
 
 pub record IsTableRequest (rows : List Row) (table : TableRequest) : Type 0 where

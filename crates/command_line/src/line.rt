@@ -290,6 +290,7 @@ fn why_of<'a>(matches: &ArgMatches<'a>) -> Result<Command<'a>, ArgumentError>
         system: file_name(matches, SYSTEM)?,
         formula: file_name(matches, FORMULA)?,
         options: options(matches)?,
+        limit: lines(matches)?,
         strict: has_value(matches, STRICT, "true"),
     }))
 }
@@ -305,6 +306,17 @@ fn labels_of<'a>(matches: &ArgMatches<'a>) -> Result<Command<'a>, ArgumentError>
         system: file_name(matches, SYSTEM)?,
         formula: optional_name(matches, FORMULA)?,
     }))
+}
+
+/// How many lines of a play are told at most.
+fn lines(matches: &ArgMatches<'_>) -> Result<u32, ArgumentError>
+    ensures asked { IfOk result (IsNumberIn (rows_of (found_of matches.now)) (codes "limit") 200) }
+    ensures only { IfErr result (λ _. (n : ℕ) → IsNumberIn (rows_of (found_of matches.now)) (codes "limit") 200 n → ⊥) }
+{
+    match written_number(matches, LIMIT)? {
+        None => Ok(200),
+        Some(n) => Ok(n),
+    }
 }
 
 /// The normal form that the matches of its command ask for.

@@ -28,9 +28,12 @@ flag_rule name = record (new_rule name) { long = Some name; action = Some action
 abbrev pub value_rule : Text → Rule
 value_rule name = record (new_rule name) { long = Some name; action = Some action.Set; value_names = 1 }
 
--- its value is a number from 1 to this one
-abbrev pub number_rule : Text → ℕ → Rule
-number_rule name most = record (value_rule name) { parser = Some (value_parser.Signed (pos 1) (pos most)) }
+-- its value is a number from this one to that one
+abbrev pub range_rule : Text → (least most : ℕ) → Rule
+range_rule name least most = record (value_rule name) { parser = Some (value_parser.Signed (pos least) (pos most)) }
+
+abbrev pub number_rule : Text → (most : ℕ) → Rule
+number_rule name most = range_rule name 1 most
 
 -- names of which one is chosen
 abbrev pub Choice : Type 0
@@ -50,6 +53,10 @@ states_rule answers = choice_rule (codes "states") answers
 
 abbrev pub limit_rule : Rule
 limit_rule = number_rule (codes "limit") 4294967295
+
+-- how many lines of a play are told at most, or 0
+abbrev pub lines_rule : Rule
+lines_rule = range_rule (codes "limit") 0 4294967295
 
 -- in which form the report is written
 abbrev pub report_rules : (answers : Choice) → List Rule
@@ -87,7 +94,7 @@ check_rules rules boards answers =
 
 abbrev pub why_rules : (rules boards : Choice) → List Rule
 why_rules rules boards =
-    text_rules ++ (flag_rule (codes "strict") ∷ priorities_rule rules ∷ lifting_rules boards)
+    text_rules ++ (flag_rule (codes "strict") ∷ lines_rule ∷ priorities_rule rules ∷ lifting_rules boards)
 
 abbrev pub table_rules : (rules boards : Choice) → List Rule
 table_rules rules boards =

@@ -15,6 +15,7 @@ ghost use Rattle.command_table.specs.Table.{
   labels_rules,
   lifting_rules,
   limit_rule,
+  lines_rule,
   normal_rules,
   output_rules,
   quiet_rule,
@@ -114,7 +115,7 @@ const WHY_ABOUT: &str = "Tells why a system satisfies a formula, or why it does 
 const WHY_AFTER: &str =
     "The answer for the initial state goes to the standard output, and then the play that shows it,\n\
 from the initial state on: for a no a counterexample. Where the loser has a choice, each way is\n\
-indented. Of more than 200 lines the first 200 are told. The status is that of check.\n\n\
+indented. The status is that of check.\n\n\
 Example:\n  mucheck why examples/philosophers-deadlock/system.aut examples/philosophers-deadlock/no-deadlock.mcf";
 
 const TABLE_ABOUT: &str = "Reports for each of many formulas whether a system satisfies it";
@@ -235,6 +236,8 @@ const STATES_HELP: &str =
 
 const LIMIT_HELP: &str = "At most so many of these numbers";
 
+const LINES_HELP: &str = "At most so many lines of the play: 200 is the default, 0 tells all";
+
 const WORKERS_HELP: &str = "How many workers lift at once: 1 is the default";
 
 const SEATS_HELP: &str = "How many workers the schedule has: 2 is the default";
@@ -332,6 +335,7 @@ fn why_parser<'a>(
     let parser = Ok(described(alloc, "why", WHY_ABOUT, WHY_AFTER));
     let parser = with_texts(alloc, parser);
     let parser = with_arg(parser, flag(alloc, STRICT, STRICT_HELP));
+    let parser = with_arg(parser, lines(alloc));
     let parser = with_arg(parser, rule(alloc, rules));
     with_workers(alloc, parser, boards)
 }
@@ -501,6 +505,15 @@ fn limit<'a>(alloc: Global) -> Arg<'a>
     option_with_value(alloc, LIMIT, "NUMBER")
         .value_parser(numbers)
         .help(LIMIT_HELP)
+}
+
+fn lines<'a>(alloc: Global) -> Arg<'a>
+    ensures { HasRule lines_rule result }
+{
+    let numbers = clap::value_parser!(u32).range(0..=4_294_967_295);
+    option_with_value(alloc, LIMIT, "NUMBER")
+        .value_parser(numbers)
+        .help(LINES_HELP)
 }
 
 /// `--evidence PATH`.

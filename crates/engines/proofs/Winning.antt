@@ -3,6 +3,7 @@ use Rattle.std.proofs.Common.{◌≡◌, ◌<◌, ℕ, Bool, true, false, Some, 
 use Rattle.std.specs.Prelude.{IsTrue, ◌↔◌, ◌⊎◌, IfOk, IfSome, List, Option, None, Result, Ok, Err, map, slice_index_or}
 use Rattle.std.specs.Arc.{arc_value}
 use Rattle.systems.specs.Numbered.{IsInside, system_with}
+use Rattle.systems.specs.declared.system.Transition.{Transition}
 use Rattle.calculus.specs.Admitted.{IsAdmitted}
 use Rattle.calculus.specs.Closed.{closed_formula}
 use Rattle.calculus.specs.Meaning.{MarksOf}
@@ -19,17 +20,14 @@ use Rattle.evidence.specs.Best.{IsEvenOf, IsOddOf}
 use Rattle.evidence.specs.Evidence.{IsEvidence, IsGood, has}
 use Rattle.evidence.specs.View.{NamedEvidence}
 use Rattle.evidence.specs.declared.error.EvidenceError.{EvidenceError}
-use Rattle.witness.specs.Walk.{is_marked}
-use Rattle.witness.specs.Witness.{GoesOneWay, IsPlay, IsWinners, IsWitness, root_of}
-use Rattle.witness.specs.declared.part.Play.{Play}
-use Rattle.witness.proofs.Means.{shown_of}
+use Rattle.witness.specs.Witness.{GoesOneWay, HasTaken, IsWinners, IsWitness, root_of}
 use Rattle.game.specs.Arena.{arena, place_in}
 use Rattle.why.specs.Story.{modality_of}
 use Rattle.engines.specs.Reasons.{AreToldOf, IsToldBy}
 use Rattle.engines.specs.declared.reasons.Told.{Told}
 use Rattle.requests.specs.Roots.{WinsRoot}
 use Rattle.requests.specs.declared.texts.Texts.{Texts}
-use Rattle.engines.specs.Prepared.{AreShown, IsPlayShown, IsWinning}
+use Rattle.engines.specs.Prepared.{AreShown, IsWinning}
 use Rattle.verdicts.specs.Findings.{AreFindings, formula_found, system_of}
 use Rattle.verdicts.specs.declared.findings.Findings.{Findings}
 use Rattle.verdicts.proofs.Limits.{nodes_some}
@@ -136,65 +134,55 @@ winners_of x e found win is =
       kind = subst (λ (g : Game). GoesOneWay g e.evidence ⊎ (IsEvenOf g e.evidence ⊎ IsOddOf g e.evidence)) game win.kind;
     }
 
--- The play by such evidence is shown.
-pub shown_by : (x : Findings) (e : NamedEvidence) (nodes : List Node) (play : Play) → ChosenIsAdmissible → AreFindings x → IsWinning x e
-    → IsEvidence e.game e.evidence → nodes ≡ nodes_with x.solution.priorities (formula_found x) → IsInside x.texts.value.system play.transitions.items
-    → IsPlay (system_of x) nodes e.evidence (system_with x.texts.value.system play.transitions.items) (is_marked play.marks.items)
-    → ((f : Formula) → IsAdmitted f → IsNodes (normal_form f) nodes → IsWitness (system_of x) f (system_with x.texts.value.system play.transitions.items))
-    → IsPlayShown x play
-shown_by x e nodes play chosen found win is same inside takes witness =
+-- What the play by such evidence takes is shown.
+shown_by : (x : Findings) (e : NamedEvidence) (nodes : List Node) (part : List Transition) → ChosenIsAdmissible → AreFindings x → IsWinning x e
+    → IsEvidence e.game e.evidence → nodes ≡ nodes_with x.solution.priorities (formula_found x) → IsInside x.texts.value.system part
+    → HasTaken (system_of x) nodes e.evidence (system_with x.texts.value.system part)
+    → ((f : Formula) → IsAdmitted f → IsNodes (normal_form f) nodes → IsWitness (system_of x) f (system_with x.texts.value.system part))
+    → AreShown x part
+shown_by x e nodes part chosen found win is same inside taken witness =
     let rule = x.solution.priorities in
-    let l = system_of x in
     let f = formula_found x in
-    let whole = system_with x.texts.value.system play.transitions.items in
     let admitted = x.texts.value.formula.admitted in
     record {
       inside = inside;
       shown = record {
         evidence = e.evidence;
         winners = winners_of x e found win is;
-        play = subst (λ (ns : List Node). IsPlay l ns e.evidence whole (is_marked play.marks.items)) same takes;
+        taken = subst (λ (ns : List Node). HasTaken (system_of x) ns e.evidence (system_with x.texts.value.system part)) same taken;
         witness = witness f admitted (subst (IsNodes (normal_form f)) (sym same) (chosen rule f admitted));
       };
     }
 
 -- the same of the texts as they are read off what was found
-pub shown_at : (x : Findings) (e : NamedEvidence) (t u : Texts) (nodes : List Node) (play : Play) → t ≡ x.texts.value → u ≡ x.texts.value
+pub shown_at : (x : Findings) (e : NamedEvidence) (t u : Texts) (nodes : List Node) (part : List Transition) → t ≡ x.texts.value → u ≡ x.texts.value
     → ChosenIsAdmissible → AreFindings x → IsWinning x e → IsEvidence e.game e.evidence
-    → nodes ≡ nodes_with x.solution.priorities (closed_formula t.formula) → IsInside u.system play.transitions.items
-    → IsPlay u.system.system nodes e.evidence (system_with u.system play.transitions.items) (is_marked play.marks.items)
-    → ((f : Formula) → IsAdmitted f → IsNodes (normal_form f) nodes → IsWitness u.system.system f (system_with u.system play.transitions.items))
-    → IsPlayShown x play
-shown_at x e t u nodes play at_t at_u chosen found win is same inside takes witness =
-    let part = play.transitions.items in
-    shown_by x e nodes play chosen found win is
+    → nodes ≡ nodes_with x.solution.priorities (closed_formula t.formula) → IsInside u.system part
+    → HasTaken u.system.system nodes e.evidence (system_with u.system part)
+    → ((f : Formula) → IsAdmitted f → IsNodes (normal_form f) nodes → IsWitness u.system.system f (system_with u.system part))
+    → AreShown x part
+shown_at x e t u nodes part at_t at_u chosen found win is same inside taken witness =
+    shown_by x e nodes part chosen found win is
     (subst (λ (y : Texts). nodes ≡ nodes_with x.solution.priorities (closed_formula y.formula)) at_t same)
     (subst (λ (y : Texts). IsInside y.system part) at_u inside)
-    (subst (λ (y : Texts). IsPlay y.system.system nodes e.evidence (system_with y.system part) (is_marked play.marks.items)) at_u takes)
+    (subst (λ (y : Texts). HasTaken y.system.system nodes e.evidence (system_with y.system part)) at_u taken)
     (subst (λ (y : Texts). (f : Formula) → IsAdmitted f → IsNodes (normal_form f) nodes → IsWitness y.system.system f (system_with y.system part))
     at_u witness)
 
--- What the play takes is shown.
-pub shown_of_play : (x : Findings) (play : Play) → IsPlayShown x play → AreShown x play.transitions.items
-shown_of_play x play h = record {
-  inside = h.inside;
-  shown = shown_of (system_of x) (formula_found x) (nodes_with x.solution.priorities (formula_found x)) (system_with x.texts.value.system play.transitions.items)
-      (is_marked play.marks.items) h.shown;
-}
-
 -- Visits that tell the play by such evidence are told, of the texts and the game as they are read off what was found.
-pub told_at : (x : Findings) (e : NamedEvidence) (g : Game) (t u : Texts) (nodes : List Node) (told : Told) → AreFindings x → IsWinning x e
+pub told_at : (x : Findings) (e : NamedEvidence) (g : Game) (t u : Texts) (nodes : List Node) (limit : ℕ) (told : Told) → AreFindings x → IsWinning x e
     → IsEvidence e.game e.evidence → g ≡ game_in x → t ≡ x.texts.value → u ≡ x.texts.value
     → nodes ≡ nodes_with x.solution.priorities (closed_formula t.formula)
-    → IsToldBy u.system.system nodes g e.evidence told → AreToldOf x told
-told_at x e g t u nodes told found win is at_g at_t at_u same by =
+    → IsToldBy u.system.system nodes g e.evidence limit told → AreToldOf x limit told
+told_at x e g t u nodes limit told found win is at_g at_t at_u same by =
     let rule = x.solution.priorities in
     let whole = subst (λ (y : Texts). nodes ≡ nodes_with rule (closed_formula y.formula)) at_t same in
-    let here = subst (λ (h : Game). IsToldBy (system_of x) nodes h e.evidence told) (at_g ∙ found.solution.game.same)
-    (subst (λ (y : Texts). IsToldBy y.system.system nodes g e.evidence told) at_u by) in
-    let all = subst (λ (ns : List Node). IsToldBy (system_of x) ns (arena (system_of x) (nodes_with rule (formula_found x))) e.evidence told) whole here in
+    let here = subst (λ (h : Game). IsToldBy (system_of x) nodes h e.evidence limit told) (at_g ∙ found.solution.game.same)
+    (subst (λ (y : Texts). IsToldBy y.system.system nodes g e.evidence limit told) at_u by) in
+    let all = subst (λ (ns : List Node). IsToldBy (system_of x) ns (arena (system_of x) (nodes_with rule (formula_found x))) e.evidence limit told) whole here in
     record {
       nodes = all.nodes;
+      most = all.most;
       lines = record {
         evidence = e.evidence;
         winners = winners_of x e found win is;

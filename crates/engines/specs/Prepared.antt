@@ -10,9 +10,7 @@ use Rattle.evidence.specs.Best.{IsEvenOf, IsOddOf}
 use Rattle.evidence.specs.Evidence.{IsGood, has}
 use Rattle.evidence.specs.View.{NamedEvidence}
 use Rattle.evidence.specs.declared.error.EvidenceError.TheVariants as evidence
-use Rattle.witness.specs.Walk.{is_marked}
-use Rattle.witness.specs.Witness.{GoesOneWay, IsShown, IsShownBy, root_of}
-use Rattle.witness.specs.declared.part.Play.{Play}
+use Rattle.witness.specs.Witness.{GoesOneWay, IsShown, root_of}
 use Rattle.requests.specs.declared.error.MuError.{MuError}
 use Rattle.requests.specs.declared.error.MuError.TheVariants as error
 use Rattle.requests.specs.declared.request.Wanted.{Wanted}
@@ -39,12 +37,6 @@ pub record IsWinning (x : Findings) (e : NamedEvidence) : Type 0 where
 pub record AreShown (x : Findings) (part : List Transition) : Type 0 where
   pub inside : IsInside x.texts.value.system part
   pub shown : IsShown (system_of x) (formula_found x) (nodes_with x.solution.priorities (formula_found x)) (system_with x.texts.value.system part)
-
--- The play takes the transitions of a witness, and its marks tell which vertices it reaches.
-pub record IsPlayShown (x : Findings) (play : Play) : Type 0 where
-  pub inside : IsInside x.texts.value.system play.transitions.items
-  pub shown : IsShownBy (system_of x) (formula_found x) (nodes_with x.solution.priorities (formula_found x))
-      (system_with x.texts.value.system play.transitions.items) (is_marked play.marks.items)
 
 -- Memory was wanting for a witness: that of the evidence, of the normal form or of the walk.
 abbrev pub IsUnshown : Findings → MuError → Type 0

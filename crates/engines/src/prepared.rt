@@ -4,7 +4,7 @@ ghost use Rattle.std.specs.Prelude.{◌≡◌, ◌<◌, IfOk, IfErr, IfSome, IsT
 ghost use Rattle.std.specs.Arc.{arc_value};
 ghost use Rattle.std.specs.Option.{is_some};
 ghost use Rattle.engines.specs.declared.prepared.Shown.{Shown};
-ghost use Rattle.engines.specs.Prepared.{ArePrepared, AreShown, IsPlayShown, IsUnprepared, IsUnshown, IsWinning};
+ghost use Rattle.engines.specs.Prepared.{ArePrepared, AreShown, IsUnprepared, IsUnshown, IsWinning};
 ghost use Rattle.verdicts.specs.Findings.{AreFindings, IsPairOf, formula_found, system_of};
 ghost use Rattle.requests.specs.Report.{report_in};
 
@@ -23,7 +23,7 @@ use requests::request::{ReportForm, Wanted, WitnessForm};
 use std::alloc::Global;
 use verdicts::findings::{Findings, odd_evidence_found};
 use verdicts::pairs::evidence_pair;
-use witness::part::{Play, witness};
+use witness::part::witness;
 
 /// A witness, and the form in which it is written.
 #[derive(Drop)]
@@ -110,7 +110,6 @@ fn pair_where(
 }
 
 /// A witness, if it is wanted, by what there is of evidence.
-#[tactic(auto, using(crate::proofs::Winning::shown_of_play))]
 fn shown_where(
     alloc: Global,
     found: &Findings,
@@ -126,29 +125,28 @@ fn shown_where(
     let Some(form) = form else {
         return Ok(None);
     };
-    let play = play_of(alloc, found, pair)?;
-    Ok(Some(Shown {
-        form,
-        part: play.transitions,
-    }))
+    let part = part_of(alloc, found, pair)?;
+    Ok(Some(Shown { form, part }))
 }
 
-/// The play that the answer rests on: one that goes one way from each vertex, where one is found, and else that by the evidence of all that the
+/// The transitions of a witness: of a play that goes one way from each vertex, where one is found, and else of that by the evidence of all that the
 /// winner wins.
-pub(crate) fn play_of(
+fn part_of(
     alloc: Global,
     found: &Findings,
     pair: &Option<EvidencePair>,
-) -> Result<Play, MuError>
+) -> Result<Vec<Transition>, MuError>
     requires found { AreFindings found.now }
     requires pair { IfSome pair.now (IsPairOf (arc_value found.now.solution.game)) }
-    ensures play { IfOk result (IsPlayShown found.now) }
+    ensures shown { IfOk result (λ part. AreShown found.now part.items) }
     ensures refusal { IfErr result (IsUnshown found.now) }
 {
-    match one_way(alloc, found) {
-        Ok(Some(evidence)) => play_by(alloc, found, &evidence),
-        Ok(None) => play_of_all(alloc, found, pair),
-        Err(error) => Err(error),
+    match pair {
+        Some(pair) => match one_way(alloc, found)? {
+            Some(evidence) => part_by(alloc, found, &evidence),
+            None => part_by(alloc, found, winners_in(found, pair)),
+        },
+        None => part_by(alloc, found, &winning_evidence(alloc, found)?),
     }
 }
 
@@ -158,13 +156,12 @@ pub(crate) fn winning_evidence(alloc: Global, found: &Findings) -> Result<Eviden
     ensures winning { IfOk result (IsWinning found.now) }
     ensures refusal { IfErr result (IsUnshown found.now) }
 {
-    match one_way(alloc, found) {
-        Ok(Some(evidence)) => Ok(evidence),
-        Ok(None) => match winner_evidence(alloc, found) {
+    match one_way(alloc, found)? {
+        Some(evidence) => Ok(evidence),
+        None => match winner_evidence(alloc, found) {
             Ok(evidence) => Ok(evidence),
             Err(error) => Err(MuError::Evidence(error)),
         },
-        Err(error) => Err(error),
     }
 }
 
@@ -191,48 +188,18 @@ fn one_way(alloc: Global, found: &Findings) -> Result<Option<Evidence>, MuError>
     }
 }
 
-/// The play that the answer rests on, by the evidence of all that the winner wins.
-fn play_of_all(
-    alloc: Global,
-    found: &Findings,
-    pair: &Option<EvidencePair>,
-) -> Result<Play, MuError>
-    requires found { AreFindings found.now }
-    requires pair { IfSome pair.now (IsPairOf (arc_value found.now.solution.game)) }
-    ensures play { IfOk result (IsPlayShown found.now) }
-    ensures refusal { IfErr result (IsUnshown found.now) }
-{
-    match pair {
-        Some(pair) => play_in(alloc, found, pair),
-        None => play_alone(alloc, found),
-    }
-}
-
-/// The play that the answer rests on, by the evidence of both players.
-fn play_in(alloc: Global, found: &Findings, pair: &EvidencePair) -> Result<Play, MuError>
+/// The winner's of both players' evidence.
+fn winners_in<'a>(found: &Findings, pair: &'a EvidencePair) -> &'a Evidence
     requires found { AreFindings found.now }
     requires pair { IsPairOf (arc_value found.now.solution.game) pair.now }
-    ensures play { IfOk result (IsPlayShown found.now) }
-    ensures refusal { IfErr result (IsUnshown found.now) }
+    ensures { IsWinning found.now result.now }
 {
     one_wins();
     found.solution.game.known();
     if initial_mark(found) {
-        play_by(alloc, found, &pair.even)
+        &pair.even
     } else {
-        play_by(alloc, found, &pair.odd)
-    }
-}
-
-/// The play that the answer rests on, where there is no evidence yet: that of the player who wins is made.
-fn play_alone(alloc: Global, found: &Findings) -> Result<Play, MuError>
-    requires { AreFindings found.now }
-    ensures play { IfOk result (IsPlayShown found.now) }
-    ensures refusal { IfErr result (IsUnshown found.now) }
-{
-    match winner_evidence(alloc, found) {
-        Ok(evidence) => play_by(alloc, found, &evidence),
-        Err(error) => Err(MuError::Evidence(error)),
+        &pair.odd
     }
 }
 
@@ -252,11 +219,11 @@ fn winner_evidence(alloc: Global, found: &Findings) -> Result<Evidence, Evidence
     }
 }
 
-/// The play that the answer rests on, by evidence that has the initial state's vertex with the root node.
-fn play_by(alloc: Global, found: &Findings, evidence: &Evidence) -> Result<Play, MuError>
+/// The transitions that the play takes by evidence that has the initial state's vertex with the root node.
+fn part_by(alloc: Global, found: &Findings, evidence: &Evidence) -> Result<Vec<Transition>, MuError>
     requires found { AreFindings found.now }
     requires winning { IsWinning found.now evidence.now }
-    ensures play { IfOk result (IsPlayShown found.now) }
+    ensures shown { IfOk result (λ part. AreShown found.now part.items) }
     ensures refusal { IfErr result (IsUnshown found.now) }
 {
     chosen_is_admissible();
@@ -270,7 +237,7 @@ fn play_by(alloc: Global, found: &Findings, evidence: &Evidence) -> Result<Play,
             &found.solution.game,
             evidence,
         ) {
-            Ok(play) => Ok(play),
+            Ok(part) => Ok(part),
             Err(Memory) => Err(MuError::Memory),
         },
         Err(error) => Err(MuError::Normal(error)),

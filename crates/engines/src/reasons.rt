@@ -20,13 +20,14 @@ use crate::outputs::answer;
 use crate::prepared::{initial_mark, winning_evidence};
 use evidence::evidence::Evidence;
 use forms::form::Normal;
+use forms::limits::MOST_NODES;
 use game::graph::Game;
 use lts::{Lts, Memory, Piece, WriteFault, put_pieces};
 use measures::observer::{Observer, Stage};
 use normal::make::normal_with;
 use reports::report::write_formula_line;
 use requests::error::MuError;
-use requests::request::{Options, Why};
+use requests::request::Why;
 use requests::texts::{Texts, read_asked};
 use requests::watch::Watcher;
 use std::alloc::Global;
@@ -42,14 +43,13 @@ use why::walk::telling;
 use why::writer::{Story, write_story};
 use witness::part::root_vertex;
 
-/// How many lines of a play are told, and no more visits than have so many.
-pub const MOST_TOLD: u32 = 200;
-
-/// The visits that tell a play, by a normal form: the text of each node's modality, which visits a run comes back to, and how many are told.
+/// The visits that tell a play, by a normal form: the text of each node's modality, how many visits are made at most, which of them a run comes back
+/// to, and how many are told.
 #[derive(Drop)]
 pub(crate) struct Told {
     pub(crate) normal: Normal,
     pub(crate) modalities: Vec<Vec<u8>>,
+    pub(crate) most: usize,
     pub(crate) visits: Vec<Visit>,
     pub(crate) heads: Vec<bool>,
     pub(crate) count: usize,
@@ -78,12 +78,12 @@ pub fn tell_why<
     out: &mut W,
     watcher: &U,
 ) -> Result<bool, MuError>
-    ensures tells { TellsWhyBy request.now.strict request.now.options.priorities (Some request.now.options.board) (R.remaining aut) (S.remaining formula)
-        (W.taken out.old) (W.taken out.new) result }
+    ensures tells { let r = request.now in TellsWhyBy r.strict r.options.priorities (Some r.options.board) r.limit (R.remaining aut)
+        (S.remaining formula) (W.taken out.old) (W.taken out.new) result }
     ensures cause { IfErr result (HaveCauses R.can_fail S.can_fail) }
 {
     match read_asked(alloc, hasher, aut, formula, request.strict, watcher) {
-        Ok(texts) => tell_read(rt, alloc, texts, &request.options, out, watcher),
+        Ok(texts) => tell_read(rt, alloc, texts, request, out, watcher),
         Err(error) => Err(error),
     }
 }
@@ -93,20 +93,21 @@ fn tell_read<W: Sink, U: Watcher + Sync, H: Threads + Wait + Clone + Copy + Drop
     rt: &H,
     alloc: Global,
     texts: Texts,
-    options: &Options,
+    request: &Why<'_>,
     out: &mut W,
     watcher: &U,
 ) -> Result<bool, MuError>
     ensures tells { (first second : List ℕ) → AreSpelled first second texts.system.system (closed_formula texts.formula)
-        → TellsReasons options.now.priorities (Some options.now.board) first second (W.taken out.old) (W.taken out.new) result }
+        → let r = request.now in TellsReasons r.options.priorities (Some r.options.board) r.limit first second (W.taken out.old)
+        (W.taken out.new) result }
     ensures cause { IfErr result (HaveCauses false false) }
 {
-    match find_in(rt, alloc, texts, options, watcher) {
+    match find_in(rt, alloc, texts, &request.options, watcher) {
         Ok(found) => {
             watcher.sees(Stage::MakingEvidence {
                 vertices: found.solution.game.vertices(),
             });
-            tell_found(alloc, &found, out, watcher)
+            tell_found(alloc, &found, request.limit, out, watcher)
         }
         Err(error) => Err(error),
     }
@@ -116,15 +117,16 @@ fn tell_read<W: Sink, U: Watcher + Sync, H: Threads + Wait + Clone + Copy + Drop
 fn tell_found<W: Sink, U: Watcher>(
     alloc: Global,
     found: &Findings,
+    limit: u32,
     out: &mut W,
     watcher: &U,
 ) -> Result<bool, MuError>
     requires { AreFindings found.now }
     ensures tells { (first second : List ℕ) → AreSpelled first second (system_of found.now) (formula_found found.now)
-        → TellsReasons found.now.solution.priorities found.now.solution.board first second (W.taken out.old) (W.taken out.new) result }
+        → TellsReasons found.now.solution.priorities found.now.solution.board limit first second (W.taken out.old) (W.taken out.new) result }
     ensures cause { IfErr result (HaveCauses false false) }
 {
-    match told_of(alloc, found) {
+    match told_of(alloc, found, limit) {
         Ok(told) => {
             watcher.sees(Stage::Writing);
             let _initial = found.texts.system.initial();
@@ -136,28 +138,40 @@ fn tell_found<W: Sink, U: Watcher>(
 }
 
 /// What is told of the answer.
-fn told_of(alloc: Global, found: &Findings) -> Result<Told, MuError>
+fn told_of(alloc: Global, found: &Findings, limit: u32) -> Result<Told, MuError>
     requires { AreFindings found.now }
-    ensures told { IfOk result (AreToldOf found.now) }
+    ensures told { IfOk result (AreToldOf found.now limit) }
     ensures refusal { IfErr result (IsUnshown found.now) }
 {
     match winning_evidence(alloc, found) {
-        Ok(evidence) => told_by(alloc, found, &evidence),
+        Ok(evidence) => told_by(alloc, found, &evidence, limit),
         Err(error) => Err(error),
     }
 }
 
 /// What is told of the play by this evidence.
-fn told_by(alloc: Global, found: &Findings, evidence: &Evidence) -> Result<Told, MuError>
+fn told_by(
+    alloc: Global,
+    found: &Findings,
+    evidence: &Evidence,
+    limit: u32,
+) -> Result<Told, MuError>
     requires found { AreFindings found.now }
     requires winning { IsWinning found.now evidence.now }
-    ensures told { IfOk result (AreToldOf found.now) }
+    ensures told { IfOk result (AreToldOf found.now limit) }
     ensures refusal { IfErr result (IsUnshown found.now) }
 {
     evidence.known();
     let texts = &found.texts;
     match normal_with(alloc, &texts.formula, found.solution.priorities) {
-        Ok(normal) => match tell_by(alloc, &texts.system, &found.solution.game, normal, evidence) {
+        Ok(normal) => match tell_by(
+            alloc,
+            &texts.system,
+            &found.solution.game,
+            normal,
+            evidence,
+            limit,
+        ) {
             Ok(told) => Ok(told),
             Err(Memory) => Err(MuError::Memory),
         },
@@ -172,22 +186,24 @@ fn tell_by(
     game: &Game,
     normal: Normal,
     evidence: &Evidence,
+    limit: u32,
 ) -> Result<Told, Memory>
     requires game { game.now ≡ arena system.now.system (normal_nodes normal) }
     requires same { evidence.now.game ≡ game.now }
     requires good { IsGood game.now evidence.now.evidence }
     requires root { IsTrue (has_entry evidence.now.evidence (root_of system.now.system (normal_nodes normal))) }
-    ensures { IfOk result (IsToldBy system.now.system (normal_nodes normal) game.now evidence.now.evidence) }
+    ensures { IfOk result (IsToldBy system.now.system (normal_nodes normal) game.now evidence.now.evidence limit) }
 {
     let root = root_vertex(system, &normal, game);
-    let most = most_visits(&normal);
+    let most = most_visits(limit);
     let visits = telling(alloc, game, evidence, root, most)?;
     let heads = heads(alloc, &visits)?;
-    let count = told_within(&normal, &visits, &heads, MOST_TOLD);
+    let count = told_within(&normal, &visits, &heads, limit);
     let modalities = modality_texts(alloc, &normal)?;
     Ok(Told {
         normal,
         modalities,
+        most,
         visits,
         heads,
         count,
@@ -195,20 +211,24 @@ fn tell_by(
 }
 
 /// How many visits are made at most.
-fn most_visits(normal: &Normal) -> usize
-    ensures many { result ≡ most_visits_of (normal_nodes normal.now) }
+fn most_visits(limit: u32) -> usize
+    ensures many { result ≡ most_visits_of limit }
     ensures some { 0 < result }
 {
-    (normal.count() as usize + 1) * (MOST_TOLD as usize + 1)
+    if limit == 0 {
+        usize::MAX
+    } else {
+        (MOST_NODES + 1) * (limit as usize + 1)
+    }
 }
 
 /// Writes what is told.
 fn put_reasons<W: Sink>(found: &Findings, told: &Told, out: &mut W) -> Result<(), WriteFault>
     requires found { AreFindings found.now }
-    requires told { AreToldOf found.now told.now }
+    requires told { (limit : ℕ) × AreToldOf found.now limit told.now }
     ensures { let l = system_of found.now in Wrote (W.taken out.old) (W.taken out.new) result
         (reasons (formula_found found.now) (slice_index_or found.now.marks.items l.initial false) l (normal_nodes told.now.normal)
-        told.now.visits.items told.now.heads.items told.now.count) }
+        told.now.most told.now.visits.items told.now.heads.items told.now.count) }
 {
     write_formula_line(&found.texts.formula, out)?;
     put_verdict(found, told, out)?;
@@ -233,9 +253,9 @@ fn put_verdict<W: Sink>(found: &Findings, told: &Told, out: &mut W) -> Result<()
 
 /// Writes the lines of the visits.
 fn put_story<W: Sink>(found: &Findings, told: &Told, out: &mut W) -> Result<(), WriteFault>
-    requires { AreToldOf found.now told.now }
-    ensures { let nodes = normal_nodes told.now.normal in Wrote (W.taken out.old) (W.taken out.new) result
-        (story_text (system_of found.now) nodes (most_visits_of nodes) told.now.visits.items told.now.heads.items told.now.count) }
+    requires { (limit : ℕ) × AreToldOf found.now limit told.now }
+    ensures { Wrote (W.taken out.old) (W.taken out.new) result
+        (story_text (system_of found.now) (normal_nodes told.now.normal) told.now.most told.now.visits.items told.now.heads.items told.now.count) }
 {
     let story = Story {
         system: &found.texts.system,
@@ -244,7 +264,7 @@ fn put_story<W: Sink>(found: &Findings, told: &Told, out: &mut W) -> Result<(), 
         visits: &told.visits,
         heads: &told.heads,
         count: told.count,
-        most: most_visits(&told.normal),
+        most: told.most,
     };
     write_story(&story, out)
 }

@@ -194,20 +194,24 @@ static SOLVING: [CodeEntry; 9] = [
         place: "",
         wrong: "without regular formulas the formula has more than 4,096 nodes: `R + S` copies \
         what follows, and `R+` copies `R`",
-        remedy: "split the formula, or use `--plain`, for which there is no such limit",
+        remedy: "write a choice of single actions as `a || b`, which copies nothing: ten choices in a \
+        row have 4,093 nodes by `+`, and 11 by `||`; else split the formula, or use `check --plain`, \
+        for which there is no such limit",
     },
     CodeEntry {
         code: "N2",
         place: "",
         wrong: "a fixpoint's priority would be above 31: more than 31 fixpoints of alternating \
         kinds stand in one another, or more than 32 where the innermost is a `nu`",
-        remedy: "try `--priorities dependent`, or use `--plain`",
+        remedy: "try `--priorities dependent`, or use `check --plain`",
     },
     CodeEntry {
         code: "B1",
         place: "",
-        wrong: "states times nodes pass 16,777,216",
-        remedy: "use `--plain`, for which there is no such limit, or reduce the system",
+        wrong: "the game would have more than 16,777,216 vertices: two, and one for each state with \
+        each node of the normal form, which `mucheck normal` counts",
+        remedy: "use `check --plain`, for which there is no such limit, write a choice of single \
+        actions as `a || b`, which has fewer nodes than `a + b`, or reduce the system",
     },
     CodeEntry {
         code: "N3",
@@ -219,7 +223,7 @@ static SOLVING: [CodeEntry; 9] = [
         code: "B2",
         place: "",
         wrong: "want of memory for the game",
-        remedy: "use a machine with more memory, reduce the system, or use `--plain`",
+        remedy: "use a machine with more memory, reduce the system, or use `check --plain`",
     },
     CodeEntry {
         code: "T1",

@@ -30,12 +30,14 @@ pub struct Check<'a> {
     pub strict: bool,
 }
 
-/// Why the initial state satisfies a formula, or doesn't: the answer and a witness, told line by line.
+/// Why the initial state satisfies a formula, or doesn't: the answer and a play that shows it.
 #[derive(Clone, Copy)]
 pub struct Why<'a> {
     pub system: &'a str,
     pub formula: &'a str,
     pub options: Options,
+    /// How many lines of the play are told at most. Where it is 0, all are.
+    pub limit: u32,
     /// With a refusal where a name or a quoted label of the formula is on no transition.
     pub strict: bool,
 }

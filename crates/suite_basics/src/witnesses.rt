@@ -76,8 +76,7 @@ fn part_of_player(
     if !has_root(system, normal, game, evidence) {
         return None;
     }
-    let play = witness(rt.alloc(), system, normal, game, evidence).expect(rt, "memory");
-    Some(play.transitions)
+    Some(witness(rt.alloc(), system, normal, game, evidence).expect(rt, "memory"))
 }
 
 // The witness of Even, where Even wins at the initial state.

@@ -127,6 +127,7 @@ fn add_check(
 fn add_why(text: &mut String, why: &Why<'_>) -> Result<(), AllocError> {
     add(text, &["why", why.system, why.formula])?;
     add_options(text, &why.options)?;
+    write!(text, " {}", why.limit)?;
     add_marks(text, why.strict, false)
 }
 
@@ -340,7 +341,7 @@ static REPORTS: [(&str, &str); 16] = [
 ];
 
 /// Other commands.
-static OTHERS: [(&str, &str); 30] = [
+static OTHERS: [(&str, &str); 31] = [
     (
         "mucheck table s f - g",
         "table s f,-,g nested 1 16 auto false",
@@ -358,7 +359,7 @@ static OTHERS: [(&str, &str); 30] = [
     ("mucheck solve --evidence e e", "solve e nested 1 16 auto e"),
     (
         "mucheck why --strict s f",
-        "why s f nested 1 16 auto strict",
+        "why s f nested 1 16 auto 200 strict",
     ),
     (
         "mucheck table s f --strict g",
@@ -368,10 +369,11 @@ static OTHERS: [(&str, &str); 30] = [
         "mucheck table s --plain f --strict --stats",
         "table s f nested 1 16 auto true strict stats",
     ),
-    ("mucheck why s f", "why s f nested 1 16 auto"),
+    ("mucheck why s f", "why s f nested 1 16 auto 200"),
+    ("mucheck why s --limit 0 f", "why s f nested 1 16 auto 0"),
     (
         "mucheck why --workers 3 s f --priorities dependent",
-        "why s f dependent 3 16 auto",
+        "why s f dependent 3 16 auto 200",
     ),
     ("mucheck table s f", "table s f nested 1 16 auto false"),
     (

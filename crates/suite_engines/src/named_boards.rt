@@ -71,6 +71,7 @@ fn told<R: Abort + AllocGlobal + Threads + Wait + Clone + Copy + Drop + Send + S
         system: "s",
         formula: "f",
         options,
+        limit: 200,
         strict: false,
     };
     let mut out = Vec::new(rt.alloc());

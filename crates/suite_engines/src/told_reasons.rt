@@ -19,6 +19,7 @@ fn why(strict: bool) -> Why<'static> {
         system: "s",
         formula: "f",
         options: DEFAULTS,
+        limit: 200,
         strict,
     }
 }

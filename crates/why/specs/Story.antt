@@ -1,6 +1,7 @@
 -- The text of a telling.
 use Rattle.std.specs.Prelude.{◌≡◌, ℕ, zero, suc, ◌+◌, ◌≤◌, ◌≢◌, ◌-◌, ◌/◌, ◌%◌, Bool, true, false, not, ◌&&◌, ◌||◌, ◌==◌, List, [], ◌∷◌, ◌++◌, Option, None, Some, length, take, replicate, codes, decimal}
 use Rattle.std.specs.Prelude.{nat_le, nat_lt, slice_get, IsTrue, ◌↔◌, ◌⊎◌, ◌<◌, slice_index_or, if◌then◌else◌}
+use Rattle.std.specs.List.{list_any}
 use Rattle.std.specs.Option.{is_some}
 use Rattle.std.specs.Str.{bytes_eq}
 use Rattle.systems.specs.System.{Arrow, System}
@@ -163,15 +164,15 @@ abbrev pub lines_before : List Node → List Visit → List Bool → ℕ → ℕ
 lines_before nodes visits heads zero = 0
 lines_before nodes visits heads (suc i) = lines_before nodes visits heads i + lines_of nodes (slice_index_or heads i false) (slice_get visits i)
 
--- So many first visits are told: all, or as many as have so many lines, where that isn't 0.
+-- So many first visits are told: all, or as many as have at most so many lines, where that isn't 0.
 pub record IsCut (nodes : List Node) (visits : List Visit) (heads : List Bool) (limit count : ℕ) : Type 0 where
   pub within : count ≤ length visits
-  pub enough : count < length visits → (limit ≢ 0) × (limit ≤ lines_before nodes visits heads count)
-  pub needed : (k : ℕ) → k < count → (limit ≡ 0) ⊎ (lines_before nodes visits heads k < limit)
+  pub few : (limit ≡ 0) ⊎ (lines_before nodes visits heads count ≤ limit)
+  pub many : count < length visits → (limit ≢ 0) × (limit < lines_before nodes visits heads (suc count))
 
 -- what stands behind the lines, where visits are left out, or so many were made that some may be
 abbrev pub rest_text : (most count visits : ℕ) → List ℕ
-rest_text most count visits = if nat_lt count visits || nat_le most visits then codes ".." ++ line_end else []
+rest_text most count visits = if nat_lt count visits || nat_le most visits then codes ".. (--limit 0 tells all)" ++ line_end else []
 
 abbrev pub story_text : System → List Node → (most : ℕ) → List Visit → (heads : List Bool) → (count : ℕ) → List ℕ
 story_text l nodes most visits heads count = lines_from (text_at l nodes visits heads) 0 count ++ rest_text most count (length visits)
@@ -182,8 +183,7 @@ is_branch _ = false
 
 -- Some run branches.
 abbrev pub has_branch : List Visit → Bool
-has_branch [] = false
-has_branch (v ∷ visits) = is_branch v.kind || has_branch visits
+has_branch visits = list_any (λ (v : Visit). is_branch v.kind) visits
 
 -- whether the initial state satisfies the formula, and what shows it
 abbrev pub verdict_text : (answer several : Bool) → List ℕ

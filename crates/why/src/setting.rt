@@ -1,13 +1,12 @@
 // What a telling is written with.
 
-ghost use Rattle.std.specs.Prelude.{◌≡◌, ◌≤◌, ◌++◌, IfOk, length, map};
+ghost use Rattle.std.specs.Prelude.{◌≡◌, ◌≤◌, ◌++◌, IfOk, false, length, map, slice_index_or};
 ghost use Rattle.text.specs.Wrote.{Wrote};
 ghost use Rattle.calculus.specs.Canon.{action_text};
 ghost use Rattle.calculus.specs.View.{action_of};
 ghost use Rattle.forms.specs.Normal.{normal_nodes};
 ghost use Rattle.forms.specs.View.{shape_of};
-ghost use Rattle.why.specs.Telling.{goes_on as is_told_further};
-ghost use Rattle.why.specs.Story.{has_branch as has_branch_of, is_branch as is_branch_of, lines_of as lines_of_visit, verdict_text};
+ghost use Rattle.why.specs.Story.{has_branch as has_branch_of, lines_of as lines_of_visit, verdict_text};
 ghost use Rattle.why.specs.Story.{AreHeads, HasMarked, IsCut, cut as cut_of, modality_of, modality_text as modality_text_of};
 
 use crate::visit::{Kind, MOST_COLUMNS, Visit};
@@ -102,7 +101,14 @@ fn mark_head(kind: Kind, heads: &mut Vec<bool>)
     }
 }
 
-/// How many of the first visits have so many lines, or how many there are where the limit is 0.
+/// Whether the visit of this number is marked.
+pub(crate) fn is_head(heads: &[bool], number: usize) -> bool
+    ensures { result ≡ slice_index_or heads.now number false }
+{
+    heads.get(number).copied().unwrap_or(false)
+}
+
+/// How many of the first visits have at most so many lines, or how many there are where the limit is 0.
 pub fn told_within(normal: &Normal, visits: &[Visit], heads: &[bool], limit: u32) -> usize
     ensures { IsCut (normal_nodes normal.now) visits.now heads.now limit result }
 {
@@ -111,11 +117,10 @@ pub fn told_within(normal: &Normal, visits: &[Visit], heads: &[bool], limit: u32
     }
     let mut lines = 0;
     for i in 0..visits.len() {
-        if lines >= u64::from(limit) {
+        lines += lines_of(normal, visits.get(i).copied(), is_head(heads, i));
+        if lines > u64::from(limit) {
             return i;
         }
-        let head = heads.get(i).copied().unwrap_or(false);
-        lines += lines_of(normal, visits.get(i).copied(), head);
     }
     visits.len()
 }
@@ -132,32 +137,15 @@ fn lines_of(normal: &Normal, visit: Option<Visit>, head: bool) -> u64
         Some(from) => action_at(normal, from).is_some(),
         None => false,
     };
-    u64::from(is_step) + u64::from(head) + u64::from(!goes_on(visit.kind))
-}
-
-/// Whether the play is told further from a visit of this kind.
-fn goes_on(kind: Kind) -> bool
-    ensures { result ≡ is_told_further kind }
-{
-    matches!(kind, Kind::On | Kind::Branch)
+    let is_end = !matches!(visit.kind, Kind::On | Kind::Branch);
+    u64::from(is_step) + u64::from(head) + u64::from(is_end)
 }
 
 /// Whether some run branches.
 pub fn has_branch(visits: &[Visit]) -> bool
     ensures { result ≡ has_branch_of visits.now }
 {
-    for visit in visits {
-        if is_branch(visit.kind) {
-            return true;
-        }
-    }
-    false
-}
-
-fn is_branch(kind: Kind) -> bool
-    ensures { result ≡ is_branch_of kind }
-{
-    kind == Kind::Branch
+    visits.iter().any(|visit| visit.kind == Kind::Branch)
 }
 
 /// Whether the initial state satisfies the formula, and whether one run shows it or several do.

@@ -7,9 +7,9 @@ ghost use Rattle.calculus.specs.View.{action_of};
 ghost use Rattle.forms.specs.Normal.{normal_nodes};
 ghost use Rattle.forms.specs.View.{shape_of};
 ghost use Rattle.why.specs.Story.{action_at as action_at_of, action_in as action_in_of, blanks_before, by_text, end_text, first_label as first_label_of, head_text, lack_text, modality_at as modality_at_of};
-ghost use Rattle.why.specs.Story.{modality_of, modality_told as modality_told_of, shape_at, sink_text, state_of as state_in, step_before as step_before_of, step_text, story_text, rest_text, visit_text, way_text};
+ghost use Rattle.why.specs.Story.{modality_of, modality_told as modality_told_of, shape_at, sink_text, state_of as state_in, step_before as step_before_of, step_text, rest_text, story_text, way_text};
 
-use crate::setting::put_between;
+use crate::setting::{is_head, put_between};
 use crate::visit::{Kind, MOST_BLANKS, Visit, Way};
 use calculus::holds;
 use calculus::tree::Act;
@@ -53,31 +53,13 @@ impl Lines for Story<'_> {
     }
 
     fn put_line<W: Sink>(&self, number: usize, writer: &mut W) -> Result<(), WriteFault> {
-        let visit = self.visits.get(number).copied();
-        let head = self.heads.get(number).copied().unwrap_or(false);
-        put_visit(self, number, visit, head, writer)
+        let visit = self.visits[number];
+        let head = is_head(self.heads, number);
+        let blanks = visit.way.blanks;
+        put_way(self, number, visit.way, writer)?;
+        put_head(head, blanks, writer)?;
+        put_end(self, visit.way.vertex, blanks, visit.kind, writer)
     }
-}
-
-/// Writes the lines of the visit of this number.
-fn put_visit<W: Sink>(
-    story: &Story<'_>,
-    number: usize,
-    visit: Option<Visit>,
-    head: bool,
-    out: &mut W,
-) -> Result<(), WriteFault>
-    requires { number < length story.now.visits.now }
-    ensures { let s = story.now in let nodes = normal_nodes s.normal.now in Wrote (W.taken out.old) (W.taken out.new) result
-        (visit_text s.system.now.system nodes (step_before_of nodes s.visits.now number) head visit) }
-{
-    let Some(visit) = visit else {
-        return Ok(());
-    };
-    let blanks = visit.way.blanks;
-    put_way(story, number, visit.way, out)?;
-    put_head(head, blanks, out)?;
-    put_end(story, visit.way.vertex, blanks, visit.kind, out)
 }
 
 /// Writes what is told.
@@ -102,7 +84,7 @@ fn put_rest<W: Sink>(
     ensures { Wrote (W.taken out.old) (W.taken out.new) result (rest_text most count visits) }
 {
     if count < visits || most <= visits {
-        put(out, b"..\n")
+        put(out, b".. (--limit 0 tells all)\n")
     } else {
         Ok(())
     }

@@ -18,7 +18,7 @@ use Rattle.evidence.proofs.Kept.{parts_are_systems}
 use Rattle.evidence.proofs.Parts.{witness_means}
 use Rattle.evidence.proofs.Taken.{witness_shows}
 use Rattle.witness.specs.Taken.{is_taken_by_some}
-use Rattle.witness.specs.Witness.{HasTaken, IsPlay, IsShown, IsShownBy, IsWitness, root_of}
+use Rattle.witness.specs.Witness.{HasTaken, IsWitness, root_of}
 
 -- a system is a part of itself, and keeps its steps
 itself : (l : System) → IsPartOf l l
@@ -54,23 +54,8 @@ is_witness l f nodes e part system admitted forms evidence good root taken =
 
 -- ------------------------------------------------------------------ by what the program has at hand
 
-pub is_play : (l : System) (nodes : List Node) (e : Evidence) (g : Game) (root : ℕ) (set : ℕ → Bool) (part : System) → g ≡ arena l nodes
+pub has_taken : (l : System) (nodes : List Node) (e : Evidence) (g : Game) (root : ℕ) (set : ℕ → Bool) (part : System) → g ≡ arena l nodes
     → root ≡ root_of l nodes
-    → AreReached g e root set → part ≡ witness l nodes e set → IsPlay l nodes e part set
-is_play l nodes e g root set part same at reached is = record {
-  reached = subst (λ r. AreReached (arena l nodes) e r set) at (subst (λ h. AreReached h e root set) same reached);
-  taken = is;
-}
-
--- ------------------------------------------------------------------ what a play shows
-
-pub taken_of : (l : System) (nodes : List Node) (e : Evidence) (part : System) (set : ℕ → Bool) → IsPlay l nodes e part set → HasTaken l nodes e part
-taken_of l nodes e part set play = (set, play.reached, play.taken)
-
-pub shown_of : (l : System) (f : Formula) (nodes : List Node) (part : System) (set : ℕ → Bool) → IsShownBy l f nodes part set → IsShown l f nodes part
-shown_of l f nodes part set shown = record {
-  evidence = shown.evidence;
-  winners = shown.winners;
-  taken = taken_of l nodes shown.evidence part set shown.play;
-  witness = shown.witness;
-}
+    → AreReached g e root set → part ≡ witness l nodes e set → HasTaken l nodes e part
+has_taken l nodes e g root set part same at reached is =
+    (set, subst (λ r. AreReached (arena l nodes) e r set) at (subst (λ h. AreReached h e root set) same reached), is)

@@ -24,11 +24,6 @@ root_of l nodes = place (length nodes) l.initial 0
 abbrev pub HasTaken : System → List Node → Evidence → System → Type 0
 HasTaken l nodes e part = (set : ℕ → Bool) × AreReached (arena l nodes) e (root_of l nodes) set × (part ≡ witness l nodes e set)
 
--- The set has the vertices that the play reaches from the root, and the part has the arrows that it takes there, and no others.
-pub record IsPlay (l : System) (nodes : List Node) (e : Evidence) (part : System) (set : ℕ → Bool) : Type 0 where
-  pub reached : AreReached (arena l nodes) e (root_of l nodes) set
-  pub taken : part ≡ witness l nodes e set
-
 -- From the vertex the play goes one way at most.
 abbrev pub GoesOneWayFrom : Game → Evidence → ℕ → Type 0
 GoesOneWayFrom g e u = (s t : ℕ) → Goes g e u s → Goes g e u t → s ≡ t
@@ -49,11 +44,4 @@ pub record IsShown (l : System) (f : Formula) (nodes : List Node) (part : System
   pub evidence : Evidence
   pub winners : IsWinners l nodes evidence
   pub taken : HasTaken l nodes evidence part
-  pub witness : IsWitness l f part
-
--- The same, where the set has the vertices that the play reaches.
-pub record IsShownBy (l : System) (f : Formula) (nodes : List Node) (part : System) (set : ℕ → Bool) : Type 0 where
-  pub evidence : Evidence
-  pub winners : IsWinners l nodes evidence
-  pub play : IsPlay l nodes evidence part set
   pub witness : IsWitness l f part

@@ -14,7 +14,7 @@ ghost use Rattle.evidence.specs.Evidence.{IsGood, entry_at, has as has_entry};
 ghost use Rattle.evidence.specs.Witness.{is_one_player as is_same_player, is_taken as is_taken_from, moves_to as moves_to_target, witness as whole_witness};
 ghost use Rattle.witness.specs.Walk.{is_marked};
 ghost use Rattle.witness.specs.Taken.{IsBetweenStates, is_taken_by_some};
-ghost use Rattle.witness.specs.Witness.{IsPlay, IsWitness, root_of};
+ghost use Rattle.witness.specs.Witness.{HasTaken, IsWitness, root_of};
 
 use crate::walk::reached;
 use evidence::evidence::Evidence;
@@ -26,14 +26,6 @@ use game::player::Player;
 use lts::{Lts, Transition};
 use std::alloc::Global;
 use text::Memory;
-
-/// What a play takes and reaches from the root at the initial state on.
-#[derive(Drop)]
-pub struct Play {
-    pub transitions: Vec<Transition>,
-    /// A mark for each vertex of the game, true where the play reaches it.
-    pub marks: Vec<bool>,
-}
 
 // Whether a set has this number.
 fn has(set: &[bool], number: u32) -> bool
@@ -166,8 +158,7 @@ pub fn has_root(system: &Lts, normal: &Normal, game: &Game, evidence: &Evidence)
 
 /// The transitions on which the answer for the initial state rests, where the evidence has its vertex with the root: those that
 /// the play takes from there by the evidence's moves and by all of the opponent's. They make a witness of each formula whose
-/// normal form this is. Beside them it answers which vertices the play reaches. It looks at each edge of what the play reaches
-/// once, and at each transition once for each node.
+/// normal form this is. It looks at each edge of what the play reaches once, and at each transition once for each node.
 ///
 /// # Errors
 /// Want of memory.
@@ -177,22 +168,20 @@ pub fn witness(
     normal: &Normal,
     game: &Game,
     evidence: &Evidence,
-) -> Result<Play, Memory>
+) -> Result<Vec<Transition>, Memory>
     requires game { game.now ≡ arena system.now.system (normal_nodes normal.now) }
     requires same { evidence.now.game ≡ game.now }
     requires good { IsGood game.now evidence.now.evidence }
     requires root { IsTrue (has_entry evidence.now.evidence (root_of system.now.system (normal_nodes normal.now))) }
-    ensures inside { IfOk result (λ play. IsInside system.now play.transitions.items) }
-    ensures play { IfOk result (λ play. IsPlay system.now.system (normal_nodes normal.now) evidence.now.evidence
-        (system_with system.now play.transitions.items) (is_marked play.marks.items)) }
-    ensures witness { IfOk result (λ play. (f : Formula) → IsAdmitted f → IsNodes (normal_form f) (normal_nodes normal.now)
-        → IsWitness system.now.system f (system_with system.now play.transitions.items)) }
+    ensures inside { IfOk result (λ part. IsInside system.now part.items) }
+    ensures taken { IfOk result (λ part. HasTaken system.now.system (normal_nodes normal.now) evidence.now.evidence (system_with system.now part.items)) }
+    ensures witness { IfOk result (λ part. (f : Formula) → IsAdmitted f → IsNodes (normal_form f) (normal_nodes normal.now)
+        → IsWitness system.now.system f (system_with system.now part.items)) }
 {
     evidence.known();
     let _states = system.states();
     let root = root_vertex(system, normal, game);
     let marks = reached(alloc, game, evidence, root)?;
     let sets = label_sets(alloc, system, normal)?;
-    let transitions = taken(alloc, system, normal, game, evidence, &sets, &marks)?;
-    Ok(Play { transitions, marks })
+    taken(alloc, system, normal, game, evidence, &sets, &marks)
 }

@@ -6,7 +6,7 @@ use Rattle.certify.proofs.decide.checked_pair.Goals as goal
 use Rattle.certify.proofs.decide.checked_pair.Goals.{in-Yes, in_default}
 
 pub returns-then-are_small : goal.returns-then-are_small
-returns-then-are_small g c =
+returns-then-are_small c =
     let game = c.args.game.now in
     let pair = c.args.pair in
     let yes : c.check_both-both.result ≡ Yes = elim c.match-matches.branch [

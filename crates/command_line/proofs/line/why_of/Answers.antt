@@ -13,3 +13,7 @@ returns-in_err-file_name-2-clause-only c = at_err _ (only_why (rows_of (found_of
 pub returns-in_err-options-clause-only : goal.returns-in_err-options-clause-only
 returns-in_err-options-clause-only c = at_err _ (only_why (rows_of (found_of c.args.matches.now))
     (λ why is complete. c.in_err-options.ensures.only why.options is.options complete.2)) c.from_residual-in_err-options.result
+
+pub returns-in_err-lines-clause-only : goal.returns-in_err-lines-clause-only
+returns-in_err-lines-clause-only c = at_err _ (only_why (rows_of (found_of c.args.matches.now))
+    (λ why is complete. c.in_err-lines.ensures.only why.limit is.limit)) c.from_residual-in_err-lines.result

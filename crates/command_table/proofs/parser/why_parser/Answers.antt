@@ -7,5 +7,6 @@ pub returns : goal.returns
 returns c =
     let files = adds_rules_if_ok (Ok c.described.result) _ _ text_rules c.with_texts-parser.ensures c.described.ensures in
     let strict = adds_rule_if_ok _ _ _ _ _ c.with_arg-parser.ensures c.flag.ensures files in
-    let rule = adds_rule_if_ok _ _ _ _ _ c.with_arg-parser-2.ensures c.rule.ensures strict in
+    let lines = adds_rule_if_ok _ _ _ _ _ c.with_arg-parser-2.ensures c.lines.ensures strict in
+    let rule = adds_rule_if_ok _ _ _ _ _ c.with_arg-parser-3.ensures c.rule.ensures lines in
     adds_rules_if_ok _ _ _ (lifting_rules c.args.boards) c.with_workers.ensures rule

@@ -6,14 +6,16 @@ use Rattle.engines.proofs.Reasoning.{story_same}
 use Rattle.engines.proofs.reasons.put_story.Goals as goal
 
 pub invariant_of-story : goal.invariant_of-story
-invariant_of-story g c = record {
-  texts = subst (λ ts. map (λ text. text.items) ts ≡ map modality_of (normal_nodes c.args.told.now.normal)) (sym c.deref-2.ensures.value) c.requires.texts;
-  within = subst (λ vs. c.args.told.now.count ≤ length vs) (sym c.deref-3.ensures.value) c.requires.lines.cut.within;
-}
+invariant_of-story g c =
+    let told = c.args.told.now in
+    record {
+      texts = subst (λ ts. map (λ text. text.items) ts ≡ map modality_of (normal_nodes told.normal)) (sym c.deref-2.ensures.value) c.requires.1.texts;
+      within = subst (λ vs. told.count ≤ length vs) (sym c.deref-3.ensures.value) c.requires.1.lines.cut.within;
+    }
 
 pub returns : goal.returns
 returns g c =
     let told = c.args.told.now in
-    Wrote-as _ _ _ _ _ (story_same c.deref.result.now c.args.found.now.texts.value (normal_nodes told.normal) _ _ c.deref-3.result.now told.visits.items
-    c.deref-4.result.now told.heads.items told.count c.deref.ensures c.most_visits.ensures.many c.deref-3.ensures.value c.deref-4.ensures.value)
+    Wrote-as _ _ _ _ _ (story_same c.deref.result.now c.args.found.now.texts.value (normal_nodes told.normal) told.most
+    c.deref-3.result.now told.visits.items c.deref-4.result.now told.heads.items told.count c.deref.ensures c.deref-3.ensures.value c.deref-4.ensures.value)
     c.write_story.ensures

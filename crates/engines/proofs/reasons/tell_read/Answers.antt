@@ -10,19 +10,21 @@ use Rattle.engines.proofs.reasons.tell_read.Goals as goal
 
 pub returns-in-Ok-clause-tells : goal.returns-in-Ok-clause-tells
 returns-in-Ok-clause-tells g c = λ first second spelled.
-    let options = c.args.options.now in
-    reasons_by_way _ options.priorities _ (Some options.board) first second _ _ c.tell_found.result c.in-Ok.ensures.way
+    let options = c.args.request.now.options in
+    reasons_by_way _ options.priorities _ (Some options.board) c.args.request.now.limit first second _ _ c.tell_found.result c.in-Ok.ensures.way
     (c.tell_found.ensures.tells first second (subst (λ (t : Texts). AreSpelled first second t.system.system (closed_formula t.formula))
     (sym c.in-Ok.ensures.texts) spelled))
 
 pub returns-in-Err-clause-tells : goal.returns-in-Err-clause-tells
 returns-in-Err-clause-tells g c = λ first second spelled.
-    let options = c.args.options.now in
+    let options = c.args.request.now.options in
     let l = c.args.texts.system.system in
     let f = closed_formula c.args.texts.formula in
-    refused_kept options.priorities (Some options.board) first second _ c.in-Err.error
+    refused_kept options.priorities (Some options.board) c.args.request.now.limit first second _ c.in-Err.error
     (λ writers kept. beyond_of options.priorities (Some options.board) first second writers l f c.in-Err.error spelled c.in-Err.ensures.refusal kept)
 
 pub returns-in-Err-clause-cause : goal.returns-in-Err-clause-cause
-returns-in-Err-clause-cause g c = beyond_caused (ByGame c.args.options.now.priorities (Some c.args.options.now.board)) c.args.texts.system.system
+returns-in-Err-clause-cause g c =
+    let options = c.args.request.now.options in
+    beyond_caused (ByGame options.priorities (Some options.board)) c.args.texts.system.system
     (closed_formula c.args.texts.formula) _ _ c.in-Err.error c.in-Err.ensures.refusal

@@ -5,7 +5,6 @@ use Rattle.why.proofs.setting.told_within.Given as goal
 
 abbrev pub invariant-loop-i : goal.invariant-loop-i
 invariant-loop-i l = record {
-  few : l.lines ≤ l.limit + 2;
+  few : l.lines ≤ l.limit;
   lines : l.lines ≡ lines_before (normal_nodes l.normal) l.visits l.heads l.i;
-  needed : (k : ℕ) → k < l.i → lines_before (normal_nodes l.normal) l.visits l.heads k < l.limit;
 }
