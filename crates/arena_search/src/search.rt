@@ -240,7 +240,8 @@ impl Search {
         self.place = self.layout.place(self.part.least);
         for block in 0..self.part.blocks {
             let unit = self.layout.unit(self.part.priority(block));
-            self.units.set(block, if self.part.is_cyclic { unit } else { 0 });
+            self.units
+                .set(block, if self.part.is_cyclic { unit } else { 0 });
         }
         self.order.clear();
         self.exits.clear();
