@@ -1,10 +1,10 @@
 // The nodes of a normal form at the states of a system.
 
 use crate::edges::{Edges, Kinds};
-use crate::part::Part;
-use forms::form::Normal;
-use forms::node::Kind;
-use lists::list::List;
+use crate::part::NodeComponent;
+use calculus::form::Normal;
+use calculus::node::Kind;
+use game::list::List;
 use std::alloc::Global;
 use systems::system::Lts;
 
@@ -13,7 +13,7 @@ pub(crate) const NONE: usize = usize::MAX;
 
 /// What a node is, without its children.
 #[derive(Clone, Copy, PartialEq, Eq)]
-pub(crate) enum Shape {
+pub(crate) enum SearchNodeKind {
     True,
     False,
     And,
@@ -26,12 +26,12 @@ pub(crate) enum Shape {
 
 /// A node with its children. One that has a single child has it twice, and a variable has its binder.
 #[derive(Clone, Copy)]
-pub(crate) struct Node {
-    pub(crate) shape: Shape,
+pub(crate) struct SearchNode {
+    pub(crate) shape: SearchNodeKind,
     pub(crate) priority: u32,
     pub(crate) left: usize,
     pub(crate) right: usize,
-    /// The same, or in the place of a variable its binder, which is gained with it.
+    /// Its children, with a variable's binder in the place of the variable, since it is gained with it.
     pub(crate) first: usize,
     pub(crate) second: usize,
     /// The kinds of its labels.
@@ -43,8 +43,8 @@ pub(crate) struct Node {
 }
 
 // No node that is of use.
-const NOTHING: Node = Node {
-    shape: Shape::True,
+const NOTHING: SearchNode = SearchNode {
+    shape: SearchNodeKind::True,
     priority: 0,
     left: NONE,
     right: NONE,
@@ -55,21 +55,21 @@ const NOTHING: Node = Node {
     height: 0,
 };
 
-impl Node {
+impl SearchNode {
     fn of(kind: &Kind) -> Self {
         let (shape, left, right) = match kind {
-            Kind::True => (Shape::True, NONE, NONE),
-            Kind::False => (Shape::False, NONE, NONE),
-            Kind::And(left, right) => (Shape::And, *left as usize, *right as usize),
-            Kind::Or(left, right) => (Shape::Or, *left as usize, *right as usize),
-            Kind::Dia(_, child) => (Shape::Dia, *child as usize, *child as usize),
-            Kind::Box(_, child) => (Shape::Box, *child as usize, *child as usize),
+            Kind::True => (SearchNodeKind::True, NONE, NONE),
+            Kind::False => (SearchNodeKind::False, NONE, NONE),
+            Kind::And(left, right) => (SearchNodeKind::And, *left as usize, *right as usize),
+            Kind::Or(left, right) => (SearchNodeKind::Or, *left as usize, *right as usize),
+            Kind::Dia(_, child) => (SearchNodeKind::Dia, *child as usize, *child as usize),
+            Kind::Box(_, child) => (SearchNodeKind::Box, *child as usize, *child as usize),
             Kind::Mu(child) | Kind::Nu(child) => {
-                (Shape::Binder, *child as usize, *child as usize)
+                (SearchNodeKind::Binder, *child as usize, *child as usize)
             }
-            Kind::Var(binder) => (Shape::Variable, *binder as usize, *binder as usize),
+            Kind::Var(binder) => (SearchNodeKind::Variable, *binder as usize, *binder as usize),
         };
-        Node {
+        SearchNode {
             shape,
             left,
             right,
@@ -78,11 +78,11 @@ impl Node {
     }
 
     pub(crate) fn is_modal(&self) -> bool {
-        self.shape == Shape::Dia || self.shape == Shape::Box
+        self.shape == SearchNodeKind::Dia || self.shape == SearchNodeKind::Box
     }
 
     pub(crate) fn is_binder(&self) -> bool {
-        self.shape == Shape::Binder
+        self.shape == SearchNodeKind::Binder
     }
 }
 
@@ -93,7 +93,7 @@ pub(crate) struct Arena {
     /// Whether the least measures are wanted, and not only some.
     pub(crate) is_exact: bool,
     pub(crate) forth: Edges,
-    nodes: List<Node>,
+    nodes: List<SearchNode>,
     // For each node where the list of those that have it for a child starts.
     starts: List<usize>,
     parents: List<usize>,
@@ -140,14 +140,14 @@ impl Arena {
     }
 
     #[inline(always)]
-    pub(crate) fn node(&self, number: usize) -> Node {
+    pub(crate) fn node(&self, number: usize) -> SearchNode {
         self.nodes.get_or(number, NOTHING)
     }
 
     /// The node itself, or the binder of a variable.
     pub(crate) fn real(&self, number: usize) -> usize {
         let node = self.node(number);
-        if node.shape == Shape::Variable {
+        if node.shape == SearchNodeKind::Variable {
             node.left
         } else {
             number
@@ -164,10 +164,10 @@ impl Arena {
 
     fn enter_nodes(&mut self, form: &Normal, kinds: &Kinds) {
         for node in form.nodes() {
-            let own = Node {
+            let own = SearchNode {
                 priority: node.priority,
                 mask: kinds.mask(self.nodes.len()),
-                ..Node::of(&node.kind)
+                ..SearchNode::of(&node.kind)
             };
             self.nodes.push(own);
         }
@@ -180,7 +180,7 @@ impl Arena {
             let node = self.node(number);
             let inside = reached.get_or(node.left, NONE);
             let least = match node.shape {
-                Shape::Variable => node.left,
+                SearchNodeKind::Variable => node.left,
                 _ => inside.min(reached.get_or(node.right, NONE)),
             };
             reached.set(number, least);
@@ -197,14 +197,14 @@ impl Arena {
             node.root = number;
             self.nodes.set(number, node);
         }
-        if node.shape == Shape::Variable {
+        if node.shape == SearchNodeKind::Variable {
             return;
         }
         for child in [node.left, node.right] {
             if reached.get_or(child, NONE) < child {
                 let root = node.root;
                 let below = self.node(child);
-                self.nodes.set(child, Node { root, ..below });
+                self.nodes.set(child, SearchNode { root, ..below });
             }
         }
     }
@@ -212,16 +212,16 @@ impl Arena {
     fn find_height(&mut self, number: usize) {
         let node = self.node(number);
         let height = match node.shape {
-            Shape::Binder | Shape::True | Shape::False => 0,
-            Shape::Variable => 1,
+            SearchNodeKind::Binder | SearchNodeKind::True | SearchNodeKind::False => 0,
+            SearchNodeKind::Variable => 1,
             _ => self
                 .height_over(node, node.left)
                 .max(self.height_over(node, node.right)),
         };
-        self.nodes.set(number, Node { height, ..node });
+        self.nodes.set(number, SearchNode { height, ..node });
     }
 
-    fn height_over(&self, node: Node, child: usize) -> u32 {
+    fn height_over(&self, node: SearchNode, child: usize) -> u32 {
         let below = self.node(child);
         if below.root == node.root {
             below.height.saturating_add(1)
@@ -234,14 +234,14 @@ impl Arena {
     fn replace_variables(&mut self, number: usize) {
         let node = self.node(number);
         let (mut first, mut second) = (node.left, node.right);
-        if !Part::of(self, node.root).counts_steps {
-            let is_variable = node.shape == Shape::Variable;
+        if !NodeComponent::of(self, node.root).counts_steps {
+            let is_variable = node.shape == SearchNodeKind::Variable;
             first = if is_variable { NONE } else { self.real(first) };
             second = if is_variable { NONE } else { self.real(second) };
         }
         self.nodes.set(
             number,
-            Node {
+            SearchNode {
                 first,
                 second,
                 ..node

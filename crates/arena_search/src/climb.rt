@@ -1,9 +1,9 @@
 // The innermost block, by levels: a binder comes one level after its child, any other node with the children by which it is gained.
 
-use crate::arena::{Arena, Node, Shape};
+use crate::arena::{Arena, SearchNode, SearchNodeKind};
 use crate::edges::{state_of, takes};
 use crate::exits::NEVER;
-use crate::search::{Search, Vertex};
+use crate::search::{ArenaSearch, Vertex};
 use crate::sets::{bit, count, states_of, word_of};
 use std::mem;
 
@@ -27,7 +27,7 @@ pub(crate) enum Change {
     Return,
 }
 
-impl Search {
+impl ArenaSearch {
     /// Finds what the player of the innermost block gains, with the levels.
     pub(crate) fn climb(&mut self, arena: &Arena) {
         self.open(arena);
@@ -69,11 +69,11 @@ impl Search {
         }
     }
 
-    fn open_node(&mut self, node: Node, number: usize) {
+    fn open_node(&mut self, node: SearchNode, number: usize) {
         let own = self.part.block(node);
         let is_all = match node.shape {
-            Shape::True => self.part.is_evens(0),
-            Shape::False => !self.part.is_evens(0),
+            SearchNodeKind::True => self.part.is_evens(0),
+            SearchNodeKind::False => !self.part.is_evens(0),
             _ => false,
         };
         for word in 0..self.gain.width() {
@@ -108,7 +108,7 @@ impl Search {
     }
 
     // What a node gains by the new states of a child, where it has another one.
-    fn gather(&mut self, number: usize, node: Node, child: usize, other: usize) {
+    fn gather(&mut self, number: usize, node: SearchNode, child: usize, other: usize) {
         let wants_one = self.part.wants_one(node);
         for place in 0..self.delta.count(child) {
             let word = self.delta.touched(child, place);
@@ -122,7 +122,7 @@ impl Search {
 
     // A node is gained at these states: in this level, or, as a binder, in the next one.
     #[inline(always)]
-    fn find(&mut self, number: usize, node: Node, word: usize, bits: u64) {
+    fn find(&mut self, number: usize, node: SearchNode, word: usize, bits: u64) {
         if self.part.is_late(node) {
             self.next.add(number, word, bits);
         } else {
@@ -132,7 +132,7 @@ impl Search {
     }
 
     // What a modality gains by the new states of its child. In the first level one that waits for all successors is gained where there are none, too.
-    fn gather_steps(&mut self, arena: &Arena, number: usize, node: Node, is_first: bool) {
+    fn gather_steps(&mut self, arena: &Arena, number: usize, node: SearchNode, is_first: bool) {
         let few = self.delta.size(node.first);
         let rest = self.rest_of(number);
         let is_dense = few > MANY && few.saturating_mul(BACK) > rest;
@@ -178,7 +178,7 @@ impl Search {
     }
 
     // From the states that aren't gained yet on to their successors.
-    fn pull(&mut self, arena: &Arena, number: usize, node: Node) {
+    fn pull(&mut self, arena: &Arena, number: usize, node: SearchNode) {
         for word in 0..self.gain.width() {
             let rest = self.rest(number, word);
             let bits = self.pulled(arena, number, node, word, rest);
@@ -186,7 +186,14 @@ impl Search {
         }
     }
 
-    fn pulled(&mut self, arena: &Arena, number: usize, node: Node, word: usize, rest: u64) -> u64 {
+    fn pulled(
+        &mut self,
+        arena: &Arena,
+        number: usize,
+        node: SearchNode,
+        word: usize,
+        rest: u64,
+    ) -> u64 {
         let wants_one = self.part.wants_one(node);
         let mut bits = 0;
         for state in states_of(word, rest) {
@@ -204,7 +211,7 @@ impl Search {
 
     // Whether a successor is new.
     #[inline(always)]
-    fn has_one(&self, arena: &Arena, node: Node, state: usize) -> bool {
+    fn has_one(&self, arena: &Arena, node: SearchNode, state: usize) -> bool {
         for edge in arena.forth.row(state, 0) {
             if takes(node.mask, *edge) && self.delta.has(node.first, state_of(*edge)) {
                 return true;
@@ -215,7 +222,7 @@ impl Search {
 
     // Whether all successors are gained. If not, the first one that isn't is noted.
     #[inline(always)]
-    fn has_all(&mut self, arena: &Arena, number: usize, node: Node, state: usize) -> bool {
+    fn has_all(&mut self, arena: &Arena, number: usize, node: SearchNode, state: usize) -> bool {
         let first = self.cursors.get(number, state);
         let mut passed = first;
         for edge in arena.forth.row(state, first) {
@@ -229,7 +236,7 @@ impl Search {
     }
 
     // From new states back to their predecessors.
-    fn push(&mut self, arena: &Arena, number: usize, node: Node) {
+    fn push(&mut self, arena: &Arena, number: usize, node: SearchNode) {
         self.want_back(arena);
         for place in 0..self.delta.count(node.first) {
             let word = self.delta.touched(node.first, place);
@@ -373,7 +380,7 @@ impl Search {
         &mut self,
         arena: &Arena,
         number: usize,
-        node: Node,
+        node: SearchNode,
         state: usize,
         change: Change,
     ) {
@@ -386,7 +393,14 @@ impl Search {
     }
 
     #[inline(always)]
-    fn meet(&mut self, arena: &Arena, number: usize, node: Node, state: usize, change: Change) {
+    fn meet(
+        &mut self,
+        arena: &Arena,
+        number: usize,
+        node: SearchNode,
+        state: usize,
+        change: Change,
+    ) {
         let is_done = self.gain.has(number, state);
         match change {
             Change::Gain => {
@@ -409,7 +423,7 @@ impl Search {
 
     // Whether a node that has a new child or successor is gained by it.
     #[inline(always)]
-    fn is_ready(&mut self, arena: &Arena, number: usize, node: Node, state: usize) -> bool {
+    fn is_ready(&mut self, arena: &Arena, number: usize, node: SearchNode, state: usize) -> bool {
         if self.part.wants_one(node) {
             true
         } else if node.is_modal() {
@@ -421,7 +435,7 @@ impl Search {
     }
 
     #[inline(always)]
-    fn reach(&mut self, number: usize, node: Node, state: usize) {
+    fn reach(&mut self, number: usize, node: SearchNode, state: usize) {
         let vertex = Vertex {
             node: number,
             state,

@@ -2,14 +2,14 @@
 // measure says.
 
 use crate::arena::Arena;
-use crate::search::Search;
+use crate::search::ArenaSearch;
 use crate::sets::{bit, states_of, word_of};
 use std::cmp::Reverse;
 
 /// No level.
 pub(crate) const NEVER: u32 = u32::MAX;
 
-impl Search {
+impl ArenaSearch {
     /// Enters a node outside, and finds whether what is won there counts in the component.
     pub(crate) fn enter_exit(&mut self, arena: &Arena, number: usize) {
         self.exits.push(number);

@@ -1,7 +1,7 @@
 // Where the counts of a ranking stand in its numbers.
 
-use crate::arena::{Arena, Node};
-use crate::part::Part;
+use crate::arena::{Arena, SearchNode};
+use crate::part::NodeComponent;
 
 /// How many priorities there are at most.
 pub(crate) const PRIORITIES: u32 = 32;
@@ -52,10 +52,10 @@ impl Fields {
     }
 
     /// How vertices of a priority count.
-    pub(crate) fn step(&self, priority: u32) -> Step {
+    pub(crate) fn step(&self, priority: u32) -> CountingRule {
         let above = self.above(priority);
         let is_counted = power(priority) & u64::from(self.priorities) != 0;
-        Step {
+        CountingRule {
             above,
             unit: if is_counted {
                 power(self.place(priority))
@@ -69,7 +69,7 @@ impl Fields {
 
 /// How a player counts vertices of a priority.
 #[derive(Clone, Copy)]
-pub(crate) struct Step {
+pub(crate) struct CountingRule {
     // The fields of the priority and of greater ones.
     above: u64,
     // One in its own field, where the player counts it, and that field.
@@ -77,7 +77,7 @@ pub(crate) struct Step {
     field: u64,
 }
 
-impl Step {
+impl CountingRule {
     /// What is counted from a vertex on, where this is counted from its successor on.
     #[inline(always)]
     pub(crate) fn carried(&self, word: u64) -> u64 {
@@ -166,8 +166,8 @@ impl Layout {
 }
 
 // The priorities that are counted for the sake of a node, as bits: in a ranking those of the blocks of a component, for the node that it begins with.
-fn counted(arena: &Arena, node: Node, number: usize) -> u32 {
-    let part = Part::of(arena, number);
+fn counted(arena: &Arena, node: SearchNode, number: usize) -> u32 {
+    let part = NodeComponent::of(arena, number);
     let bits = if arena.is_exact {
         power(node.priority)
     } else if node.root == number && part.is_cyclic {

@@ -1,14 +1,14 @@
 // The least measures of nodes: a binder's are what was counted, and those of any other node follow from its children's.
 
-use crate::arena::{Arena, Node, Shape};
+use crate::arena::{Arena, SearchNode, SearchNodeKind};
 use crate::edges::{state_of, takes};
-use crate::fields::Step;
-use crate::search::Search;
+use crate::fields::CountingRule;
+use crate::search::ArenaSearch;
 
 /// A vertex whose measure follows from its successors': that of who wins it, the least of them where it is the winner's own.
 #[derive(Clone, Copy)]
 struct Lifted {
-    step: Step,
+    step: CountingRule,
     is_odd: bool,
     is_own: bool,
     best: u64,
@@ -17,7 +17,7 @@ struct Lifted {
 impl Lifted {
     // Takes a successor into account.
     #[inline(always)]
-    fn take(&mut self, search: &Search, number: usize, state: usize) {
+    fn take(&mut self, search: &ArenaSearch, number: usize, state: usize) {
         if search.odd.has(number, state) == self.is_odd {
             let word = search.counted(search.measures(number), state);
             let word = self.step.carried(word);
@@ -30,7 +30,7 @@ impl Lifted {
     }
 }
 
-impl Search {
+impl ArenaSearch {
     /// Finds the measures of the component at hand, of which the winners are known: those of binders that lead back to themselves first.
     pub(crate) fn lift_part(&mut self, arena: &Arena) {
         for are_binders in [true, false] {
@@ -44,8 +44,8 @@ impl Search {
         }
     }
 
-    fn lift_node(&mut self, arena: &Arena, number: usize, node: Node, is_counted: bool) {
-        if node.shape == Shape::Variable {
+    fn lift_node(&mut self, arena: &Arena, number: usize, node: SearchNode, is_counted: bool) {
+        if node.shape == SearchNodeKind::Variable {
             self.odd.copy(number, node.left);
         }
         let even = self.layout.even.step(node.priority);
@@ -81,8 +81,15 @@ impl Search {
     }
 
     #[inline(always)]
-    fn lifted(&self, arena: &Arena, node: Node, state: usize, is_odd: bool, step: Step) -> u64 {
-        let is_odds_node = node.shape == Shape::And || node.shape == Shape::Box;
+    fn lifted(
+        &self,
+        arena: &Arena,
+        node: SearchNode,
+        state: usize,
+        is_odd: bool,
+        step: CountingRule,
+    ) -> u64 {
+        let is_odds_node = node.shape == SearchNodeKind::And || node.shape == SearchNodeKind::Box;
         let is_own = is_odds_node == is_odd && node.left < self.nodes;
         let mut lifted = Lifted {
             step,

@@ -1,10 +1,10 @@
 // The least measures of both players, with heights by which it can be seen that they are.
 
 use crate::arena::Arena;
-use crate::part::Part;
-use crate::search::Search;
-use forms::form::Normal;
-use lists::list::List;
+use crate::part::NodeComponent;
+use crate::search::ArenaSearch;
+use calculus::form::Normal;
+use game::list::List;
 use std::alloc::Global;
 use systems::system::Lts;
 
@@ -25,9 +25,9 @@ impl Side {
 #[derive(Drop)]
 pub struct Measures {
     arena: Arena,
-    search: Search,
+    search: ArenaSearch,
     // The component of each node.
-    parts: List<Part>,
+    parts: List<NodeComponent>,
 }
 
 /// Guesses the least measures of both players. There are none where that takes too long, where counts don't fit a word, or for want of memory.
@@ -36,10 +36,10 @@ pub fn least_measures(alloc: Global, lts: &Lts, form: &Normal) -> Option<Measure
     if !arena.is_whole() {
         return None;
     }
-    let search = Search::of(alloc, &arena);
+    let search = ArenaSearch::of(alloc, &arena);
     let mut parts = List::none(alloc);
     for node in 0..arena.count() {
-        parts.push(Part::of(&arena, arena.node(node).root));
+        parts.push(NodeComponent::of(&arena, arena.node(node).root));
     }
     if search.is_whole() && parts.is_whole() {
         Some(Measures {

@@ -1,11 +1,11 @@
 // Rounds just outside the innermost block that change little: what rests on what is lost is taken away, and what has another support gained again, at
 // the levels that a climb would find.
 
-use crate::arena::{Arena, Node};
+use crate::arena::{Arena, SearchNode};
 use crate::climb::Change;
 use crate::edges::{state_of, takes};
 use crate::exits::NEVER;
-use crate::search::{Search, Vertex};
+use crate::search::{ArenaSearch, Vertex};
 use crate::sets::{bit, word_of};
 use std::cmp::Reverse;
 use std::mem;
@@ -13,7 +13,7 @@ use std::mem;
 /// A vertex that is gained again at a level.
 pub(crate) type Later = (Reverse<u32>, usize, usize);
 
-impl Search {
+impl ArenaSearch {
     /// Has rounds follow each other after the one in which what is lost was lost, as long as they change little. The answer is whether a climb has to follow.
     pub(crate) fn mend_rounds(&mut self, arena: &Arena) -> bool {
         for _ in 0..u64::MAX {
@@ -90,7 +90,7 @@ impl Search {
 
     /// A vertex that is gained is lost where its children's levels don't support its own any more.
     #[inline(always)]
-    pub(crate) fn lose(&mut self, arena: &Arena, number: usize, node: Node, state: usize) {
+    pub(crate) fn lose(&mut self, arena: &Arena, number: usize, node: SearchNode, state: usize) {
         let is_given = self.given(0, number, word_of(state)) & bit(state) != 0;
         let level = self.level_at(number, state);
         if !is_given && self.level(arena, node, state) > level {
@@ -105,7 +105,7 @@ impl Search {
     }
 
     /// A vertex that isn't gained waits for its level, if its children give it one.
-    pub(crate) fn wait(&mut self, arena: &Arena, number: usize, node: Node, state: usize) {
+    pub(crate) fn wait(&mut self, arena: &Arena, number: usize, node: SearchNode, state: usize) {
         let level = self.level(arena, node, state);
         if level != NEVER {
             self.is_whole &= self.waiting.push((Reverse(level), number, state)).is_ok();
@@ -113,7 +113,7 @@ impl Search {
     }
 
     // The level at which a vertex is gained by the levels of its children.
-    fn level(&self, arena: &Arena, node: Node, state: usize) -> u32 {
+    fn level(&self, arena: &Arena, node: SearchNode, state: usize) -> u32 {
         let level = if node.is_modal() {
             self.level_by_steps(arena, node, state)
         } else {
@@ -128,7 +128,7 @@ impl Search {
         level.saturating_add(u32::from(self.part.is_late(node)))
     }
 
-    fn level_by_steps(&self, arena: &Arena, node: Node, state: usize) -> u32 {
+    fn level_by_steps(&self, arena: &Arena, node: SearchNode, state: usize) -> u32 {
         let wants_one = self.part.wants_one(node);
         let mut best = if wants_one { NEVER } else { 0 };
         for edge in arena.forth.row(state, 0) {

@@ -1,11 +1,11 @@
 // Components of nodes.
 
-use crate::arena::{Arena, Node, Shape};
+use crate::arena::{Arena, SearchNode, SearchNodeKind};
 
 /// A component of nodes, with its blocks: each priority from the least of its binders up to the greatest, and the binders that have it. Blocks are
 /// numbered from the innermost one on.
 #[derive(Clone, Copy)]
-pub(crate) struct Part {
+pub(crate) struct NodeComponent {
     /// Its first node.
     pub(crate) root: usize,
     /// The priority of the innermost block.
@@ -18,7 +18,7 @@ pub(crate) struct Part {
     pub(crate) counts_steps: bool,
 }
 
-impl Part {
+impl NodeComponent {
     /// The component that begins with this node.
     pub(crate) fn of(arena: &Arena, root: usize) -> Self {
         let (mut least, mut greatest, mut size) = (u32::MAX, 0, 0_usize);
@@ -32,7 +32,7 @@ impl Part {
                 }
             }
         }
-        Part {
+        NodeComponent {
             root,
             least,
             blocks: (greatest.saturating_sub(least) as usize).wrapping_add(1),
@@ -42,13 +42,13 @@ impl Part {
     }
 
     #[inline(always)]
-    pub(crate) fn has(&self, node: Node) -> bool {
+    pub(crate) fn has(&self, node: SearchNode) -> bool {
         node.root == self.root
     }
 
     /// Whether a node of the innermost block is gained one level after the children by which it is.
     #[inline(always)]
-    pub(crate) fn is_late(&self, node: Node) -> bool {
+    pub(crate) fn is_late(&self, node: SearchNode) -> bool {
         node.is_binder() || self.counts_steps
     }
 
@@ -65,7 +65,7 @@ impl Part {
 
     /// The block of a binder. Any other node is in the innermost one.
     #[inline(always)]
-    pub(crate) fn block(&self, node: Node) -> usize {
+    pub(crate) fn block(&self, node: SearchNode) -> usize {
         if node.is_binder() {
             node.priority.saturating_sub(self.least) as usize
         } else {
@@ -75,10 +75,10 @@ impl Part {
 
     /// Whether the player of the innermost block gains a node by one child or successor, and not only by all.
     #[inline(always)]
-    pub(crate) fn wants_one(&self, node: Node) -> bool {
+    pub(crate) fn wants_one(&self, node: SearchNode) -> bool {
         match node.shape {
-            Shape::Or | Shape::Dia => self.is_evens(0),
-            Shape::And | Shape::Box => !self.is_evens(0),
+            SearchNodeKind::Or | SearchNodeKind::Dia => self.is_evens(0),
+            SearchNodeKind::And | SearchNodeKind::Box => !self.is_evens(0),
             _ => true,
         }
     }

@@ -2,10 +2,10 @@
 
 use crate::arena::Arena;
 use crate::fields::{Fields, MARK, PRIORITIES};
-use crate::search::Search;
-use columns::column::{Column, Columns, Marked};
-use forms::form::Normal;
-use lists::list::List;
+use crate::search::ArenaSearch;
+use calculus::form::Normal;
+use game::column::{Column, Columns, Marked};
+use game::list::List;
 use std::alloc::Global;
 use systems::system::Lts;
 
@@ -26,7 +26,7 @@ fn place(number: usize) -> u32 {
     u32::try_from(number).unwrap_or(u32::MAX)
 }
 
-impl Search {
+impl ArenaSearch {
     // The numbers of a node, above the number of its component.
     fn column(&self, arena: &Arena, number: usize) -> Column {
         let node = arena.node(number);
@@ -70,7 +70,7 @@ impl Search {
 }
 
 // The ranking that was found. There is none where something wasn't.
-fn ranking_of(alloc: Global, arena: &Arena, search: Search) -> Option<GuessedRanking> {
+fn ranking_of(alloc: Global, arena: &Arena, search: ArenaSearch) -> Option<GuessedRanking> {
     let mut nodes = List::none(alloc);
     for number in 0..arena.count() {
         nodes.push(search.column(arena, number));
@@ -78,7 +78,7 @@ fn ranking_of(alloc: Global, arena: &Arena, search: Search) -> Option<GuessedRan
     let evens = search.shifts(alloc, search.layout.even);
     let odds = search.shifts(alloc, search.layout.odd);
     let is_whole = nodes.is_whole() && evens.is_whole() && odds.is_whole() && search.is_whole();
-    let Search {
+    let ArenaSearch {
         odd,
         counts,
         words,
@@ -104,6 +104,6 @@ pub fn ranking(alloc: Global, lts: &Lts, form: &Normal) -> Option<GuessedRanking
     if !arena.is_whole() {
         return None;
     }
-    let search = Search::of(alloc, &arena);
+    let search = ArenaSearch::of(alloc, &arena);
     ranking_of(alloc, &arena, search)
 }

@@ -1,13 +1,13 @@
 // What is found of a component: the innermost block by levels, the others by rounds.
 
-use crate::arena::{Arena, Node, Shape};
+use crate::arena::{Arena, SearchNode, SearchNodeKind};
 use crate::edges::Edges;
 use crate::fields::Layout;
 use crate::mend::Later;
-use crate::part::Part;
+use crate::part::NodeComponent;
 use crate::sets::{Fronts, Sets, bit, states_of, word_of};
-use crate::table::Table;
-use lists::list::List;
+use crate::table::NumberLists;
+use game::list::List;
 use std::alloc::Global;
 use std::collections::BinaryHeap;
 
@@ -23,10 +23,10 @@ pub(crate) struct Vertex {
 
 /// The search, with the component at hand.
 #[derive(Drop)]
-pub(crate) struct Search {
+pub(crate) struct ArenaSearch {
     alloc: Global,
     pub(crate) layout: Layout,
-    pub(crate) part: Part,
+    pub(crate) part: NodeComponent,
     /// The edges back, once they are wanted.
     pub(crate) back: Edges,
     pub(crate) nodes: usize,
@@ -48,10 +48,10 @@ pub(crate) struct Search {
     pub(crate) stride: usize,
     /// For each node what was counted when it was gained last, by the player who gained it: the level or the rounds of the block, with what the player's
     /// blocks inside it count. One of both is in use, by the layout.
-    pub(crate) counts: Table<u32>,
-    pub(crate) words: Table<u64>,
+    pub(crate) counts: NumberLists<u32>,
+    pub(crate) words: NumberLists<u64>,
     /// For each modality that waits for all successors how many of the first ones need no more look.
-    pub(crate) cursors: Table<u32>,
+    pub(crate) cursors: NumberLists<u32>,
     /// Whether vertices are looked at one by one.
     pub(crate) is_walking: bool,
     /// Those of the level at hand, and of the next one.
@@ -77,19 +77,19 @@ pub(crate) struct Search {
     pub(crate) is_whole: bool,
 }
 
-impl Search {
+impl ArenaSearch {
     fn new(alloc: Global, arena: &Arena, layout: Layout) -> Self {
         let (nodes, states) = (arena.count(), arena.states);
         let mut blocks = 2;
         for root in 0..nodes {
-            blocks = Part::of(arena, root).blocks.max(blocks);
+            blocks = NodeComponent::of(arena, root).blocks.max(blocks);
         }
         let stride = if arena.is_exact { nodes } else { 0 };
         let lists = blocks.saturating_mul(stride).saturating_add(nodes);
-        Search {
+        ArenaSearch {
             alloc,
             layout,
-            part: Part::of(arena, 0),
+            part: NodeComponent::of(arena, 0),
             back: Edges::none(alloc),
             nodes,
             order: List::none(alloc),
@@ -101,9 +101,9 @@ impl Search {
             next: Fronts::new(alloc, nodes, states),
             odd: Sets::new(alloc, nodes, states),
             stride,
-            counts: Table::new(alloc, lists, states, 0),
-            words: Table::new(alloc, lists, states, 0),
-            cursors: Table::new(alloc, nodes, states, 0),
+            counts: NumberLists::new(alloc, lists, states, 0),
+            words: NumberLists::new(alloc, lists, states, 0),
+            cursors: NumberLists::new(alloc, nodes, states, 0),
             is_walking: false,
             todo: List::none(alloc),
             later: List::none(alloc),
@@ -216,16 +216,16 @@ impl Search {
 
     /// What is found of all nodes, component by component.
     pub(crate) fn of(alloc: Global, arena: &Arena) -> Self {
-        let search = Search::with(alloc, arena, Layout::of(arena, false));
+        let search = ArenaSearch::with(alloc, arena, Layout::of(arena, false));
         if search.layout.holds(search.most) {
             return search;
         }
         drop(search);
-        Search::with(alloc, arena, Layout::of(arena, true))
+        ArenaSearch::with(alloc, arena, Layout::of(arena, true))
     }
 
     fn with(alloc: Global, arena: &Arena, layout: Layout) -> Self {
-        let mut search = Search::new(alloc, arena, layout);
+        let mut search = ArenaSearch::new(alloc, arena, layout);
         for root in (0..arena.count()).rev() {
             if arena.node(root).root == root && search.left > 0 {
                 search.solve(arena, root);
@@ -236,7 +236,7 @@ impl Search {
 
     // Finds who wins the nodes of the component with this root, where it is known of those below it.
     fn solve(&mut self, arena: &Arena, root: usize) {
-        self.part = Part::of(arena, root);
+        self.part = NodeComponent::of(arena, root);
         self.place = self.layout.place(self.part.least);
         for block in 0..self.part.blocks {
             let unit = self.layout.unit(self.part.priority(block));
@@ -262,7 +262,7 @@ impl Search {
     // Enters a node of the component, and its children that are outside.
     fn enter(&mut self, arena: &Arena, number: usize) {
         let node = arena.node(number);
-        let is_variable = node.shape == Shape::Variable && !self.part.counts_steps;
+        let is_variable = node.shape == SearchNodeKind::Variable && !self.part.counts_steps;
         if !self.part.has(node) || is_variable {
             return;
         }
@@ -330,7 +330,7 @@ impl Search {
     }
 
     // What the player of a block has of a node once the blocks inside it have ended.
-    fn status(&self, node: Node, block: usize, number: usize, word: usize) -> u64 {
+    fn status(&self, node: SearchNode, block: usize, number: usize, word: usize) -> u64 {
         if !self.part.has(node) {
             return self.exit(block, number, word);
         }

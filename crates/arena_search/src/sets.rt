@@ -2,7 +2,7 @@
 
 ghost use Rattle.std.specs.Iterator.{at_most};
 
-use lists::list::List;
+use game::list::List;
 use std::alloc::Global;
 
 // How many states have their bits in one word.

@@ -4,7 +4,7 @@ use std::alloc::Global;
 
 /// Lists of so many numbers. One is there from the first number on that isn't zero; before all its numbers are read as zeros.
 #[derive(Drop)]
-pub(crate) struct Table<T> {
+pub(crate) struct NumberLists<T> {
     alloc: Global,
     length: usize,
     zero: T,
@@ -12,10 +12,10 @@ pub(crate) struct Table<T> {
     is_whole: bool,
 }
 
-impl<T: Copy + Drop + PartialEq> Table<T> {
+impl<T: Copy + Drop + PartialEq> NumberLists<T> {
     /// So many lists, of which none is there yet.
     pub(crate) fn new(alloc: Global, count: usize, length: usize, zero: T) -> Self {
-        let mut table = Table {
+        let mut table = NumberLists {
             alloc,
             length,
             zero,
@@ -35,7 +35,7 @@ impl<T: Copy + Drop + PartialEq> Table<T> {
 
     /// All lists.
     pub(crate) fn into_lists(self) -> Vec<Vec<T>> {
-        let Table { lists, .. } = self;
+        let NumberLists { lists, .. } = self;
         lists
     }
 

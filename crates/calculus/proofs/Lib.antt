@@ -10,3 +10,5 @@ pub mod Grown
 pub mod Decided
 pub mod Binders
 pub mod Marks
+pub mod Sizes
+pub mod LabelSets

@@ -6,3 +6,10 @@ pub mod Admitted
 pub mod Closed
 pub mod Meaning
 pub mod FixpointLaws
+pub mod NormalTree
+pub mod Nodes
+pub mod Rules
+pub mod Form
+pub mod NodeView
+pub mod Normal
+pub mod Taken

@@ -8,7 +8,7 @@ use Rattle.clap.specs.Words.{App, Row, Text, first_of, takes}
 use Rattle.requests.specs.declared.error.MuError.{MuError}
 use Rattle.requests.specs.declared.error.MuError.TheVariants as error
 use Rattle.requests.specs.declared.request.Check.{Check as CheckRequest}
-use Rattle.invocation.specs.declared.request.Labels.{Labels as LabelsRequest}
+use Rattle.command_line.specs.declared.request.Labels.{Labels as LabelsRequest}
 use Rattle.requests.specs.declared.request.Normalize.{Normalize}
 use Rattle.requests.specs.declared.request.ReportForm.{ReportForm}
 use Rattle.requests.specs.declared.request.ReportForm.TheVariants.{States}
@@ -16,14 +16,14 @@ use Rattle.requests.specs.declared.request.Replay.{Replay as ReplayRequest}
 use Rattle.requests.specs.declared.request.Solve.{Solve as SolveRequest}
 use Rattle.requests.specs.declared.request.Verify.{Verify as VerifyRequest}
 use Rattle.requests.specs.declared.request.Why.{Why as WhyRequest}
-use Rattle.invocation.specs.declared.request.Command.{Command}
-use Rattle.invocation.specs.declared.request.Command.TheVariants.{Check, Explain, Help, Labels, Normal, Replay, Solve, Table, Verify, Version, Why}
-use Rattle.invocation.specs.declared.request.Outputs.{Outputs}
-use Rattle.invocation.specs.Command.{IsComplete, IsForSome, IsPlainAlone, is_named}
+use Rattle.command_line.specs.declared.request.Command.{Command}
+use Rattle.command_line.specs.declared.request.Command.TheVariants.{Check, Explain, Help, Labels, Normal, Replay, Solve, Table, Verify, Version, Why}
+use Rattle.command_line.specs.declared.request.Outputs.{Outputs}
+use Rattle.command_line.specs.Command.{IsComplete, IsForSome, IsPlainAlone, is_named}
 use Rattle.command_line.specs.CommandLine.{AreOutputs, IsCheck, IsCommand, IsFile, IsFileIfAny, IsNormal, IsNumberIfAny, IsNumberOf, IsNumberOr}
 use Rattle.command_table.specs.Table.{IsCommandTable}
 use Rattle.command_line.specs.CommandLine.{AsksLabels, AsksReplay, IsSolve, IsVerify, IsWhy, answer_word, form_by, stands}
-use Rattle.invocation.specs.Refused.{IfArguments}
+use Rattle.command_line.specs.Refused.{IfArguments}
 use Rattle.command_line.specs.Refusals.{AsksForNone, AsksNoForm, IsNoAnswer, IsUntaken}
 
 -- ------------------------------------------------------------------ refusals

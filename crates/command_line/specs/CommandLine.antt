@@ -7,8 +7,8 @@ use Rattle.std.specs.Str.Parse.{IsNumeral, digits_value, without_leading_plus}
 use Rattle.clap.specs.Words.{App, Row, Text, all_of, first_of, one_of, subcommand_of, subcommand_rows_of}
 use Rattle.clap.specs.declared.parser.matches.ArgMatches.{ArgMatches}
 use Rattle.command_table.specs.Table.{IsCommandTable}
-use Rattle.forms.specs.declared.priorities.Priorities.{Priorities}
-use Rattle.forms.specs.declared.priorities.Priorities.TheVariants.{Dependent, Nested}
+use Rattle.calculus.specs.declared.priorities.Priorities.{Priorities}
+use Rattle.calculus.specs.declared.priorities.Priorities.TheVariants.{Dependent, Nested}
 use Rattle.workers.specs.declared.team.BoardKind.{BoardKind}
 use Rattle.workers.specs.declared.team.BoardKind.TheVariants as board
 use Rattle.requests.specs.declared.request.Check.{Check as CheckRequest}
@@ -17,11 +17,11 @@ use Rattle.requests.specs.declared.request.ReportForm.{ReportForm}
 use Rattle.requests.specs.declared.request.ReportForm.TheVariants.{Whole, Summary, States, Nothing}
 use Rattle.requests.specs.declared.request.Table.{Table as TableRequest}
 use Rattle.requests.specs.declared.request.Why.{Why as WhyRequest}
-use Rattle.invocation.specs.declared.request.Command.{Command}
-use Rattle.invocation.specs.declared.request.Command.TheVariants.{Check, Explain, Help, Labels, Normal, Replay, Solve, Table, Verify, Version, Why}
-use Rattle.invocation.specs.declared.request.Labels.{Labels as LabelsRequest}
+use Rattle.command_line.specs.declared.request.Command.{Command}
+use Rattle.command_line.specs.declared.request.Command.TheVariants.{Check, Explain, Help, Labels, Normal, Replay, Solve, Table, Verify, Version, Why}
+use Rattle.command_line.specs.declared.request.Labels.{Labels as LabelsRequest}
 use Rattle.requests.specs.declared.request.Normalize.{Normalize}
-use Rattle.invocation.specs.declared.request.Outputs.{Outputs}
+use Rattle.command_line.specs.declared.request.Outputs.{Outputs}
 use Rattle.requests.specs.declared.request.Replay.{Replay as ReplayRequest}
 use Rattle.requests.specs.declared.request.Solve.{Solve as SolveRequest}
 use Rattle.requests.specs.declared.request.Verify.{Verify as VerifyRequest}

@@ -4,14 +4,14 @@ use Rattle.std.specs.Borrow.{Bor}
 use Rattle.clap.specs.Words.{App, Row, Text, subcommand_of, takes}
 use Rattle.requests.specs.declared.request.Options.{Options}
 use Rattle.requests.specs.declared.request.ReportForm.{ReportForm}
-use Rattle.invocation.specs.declared.request.Command.{Command}
-use Rattle.invocation.specs.declared.request.Outputs.{Outputs}
-use Rattle.invocation.specs.Command.{AreAllNamed, AreNamed, AreWithin, IsComplete, IsForSome, IsPlainAlone}
+use Rattle.command_line.specs.declared.request.Command.{Command}
+use Rattle.command_line.specs.declared.request.Outputs.{Outputs}
+use Rattle.command_line.specs.Command.{AreAllNamed, AreNamed, AreWithin, IsComplete, IsForSome, IsPlainAlone}
 use Rattle.command_line.specs.CommandLine.{AreFiles, AreOptions, AreOutputs, IsAskedFor, IsCommand, IsFile, IsFileIfAny, IsReportForm, IsNumberIfAny, IsNumberIn}
 use Rattle.command_table.specs.Table.{IsCommandTable}
 use Rattle.command_line.specs.CommandLine.{IsRead, answer_word}
-use Rattle.invocation.specs.Inputs.{ReadsItOnce}
-use Rattle.invocation.specs.Names.{KeepsFiles}
+use Rattle.command_line.specs.Inputs.{ReadsItOnce}
+use Rattle.command_line.specs.Names.{KeepsFiles}
 
 -- ------------------------------------------------------------------ the whole line
 

@@ -1,14 +1,14 @@
 // The texts that the program tells of itself.
 
 ghost use Rattle.std.specs.Prelude.{IfErr};
-ghost use Rattle.invocation.specs.Refused.{IsLineError};
+ghost use Rattle.command_line.specs.Refused.{IsLineError};
 
+use crate::codes::code_entry;
 use crate::line::refusal;
 use crate::version::VERSION;
 use clap::Error as ClapError;
 use clap::error::ErrorKind;
 use command_table::parser::parser;
-use invocation::codes::code_entry;
 use requests::error::{ArgumentError, MuError};
 use std::alloc::{AllocError, Global};
 
@@ -80,8 +80,5 @@ pub fn explanation(alloc: Global, code: &str) -> Result<String, MuError>
 fn text(made: Result<String, AllocError>) -> Result<String, MuError>
     ensures { IfErr result IsLineError }
 {
-    match made {
-        Ok(text) => Ok(text),
-        Err(AllocError) => Err(MuError::Memory),
-    }
+    Ok(made?)
 }

@@ -4,7 +4,7 @@ ghost use Rattle.std.specs.Prelude.{◌≡◌, ◌<◌, ◌≤◌, ◌≢◌, �
 ghost use Rattle.std.specs.List.{list_all};
 ghost use Rattle.std.specs.String.{string_bytes};
 ghost use Rattle.clap.specs.Words.{first_of, found_of, kind_of, rows_of, subcommand_rows_of};
-ghost use Rattle.invocation.specs.Command.{AreAllNamed, AreNamed, AreWithin, IsComplete, IsForSome, IsPlainAlone, is_named};
+ghost use Rattle.command_line.specs.Command.{AreAllNamed, AreNamed, AreWithin, IsComplete, IsForSome, IsPlainAlone, is_named};
 ghost use Rattle.command_line.specs.CommandLine.{
   AreFiles,
   AreMatchesOf,
@@ -24,9 +24,9 @@ ghost use Rattle.command_line.specs.CommandLine.{
   has_value,
   priorities_in,
 };
-ghost use Rattle.invocation.specs.Inputs.{ReadsItOnce};
-ghost use Rattle.invocation.specs.Names.{KeepsFiles};
-ghost use Rattle.invocation.specs.Refused.{IfArguments, IsLineError};
+ghost use Rattle.command_line.specs.Inputs.{ReadsItOnce};
+ghost use Rattle.command_line.specs.Names.{KeepsFiles};
+ghost use Rattle.command_line.specs.Refused.{IfArguments, IsLineError};
 ghost use Rattle.command_line.specs.Refusals.{
   AreUnnamed,
   AsksForNone,
@@ -43,7 +43,11 @@ ghost use Rattle.command_line.specs.Refusals.{
   ReadsNone,
 };
 
+use crate::inputs::read_once;
+use crate::names::keep_files;
+use crate::request::{Command, Labels, Outputs};
 use crate::version::VERSION;
+use calculus::priorities::Priorities;
 use clap::error::ErrorKind;
 use clap::{ArgMatches, Error as ClapError};
 use command_table::parser::{
@@ -51,10 +55,6 @@ use command_table::parser::{
     PRIORITIES, QUIET, SCHEDULE, SHARDS, STATES, STATS, STRICT, SUMMARY, SYSTEM, WITNESS_FILE,
     WORKERS, parser,
 };
-use forms::priorities::Priorities;
-use invocation::inputs::read_once;
-use invocation::names::keep_files;
-use invocation::request::{Command, Labels, Outputs};
 use requests::error::{ArgumentError, MuError};
 use requests::request::{
     BoardKind, Check, Normalize, Options, Replay, ReportForm, Solve, Table, Verify, Why,
@@ -124,10 +124,7 @@ fn request_of<'a>(alloc: Global, matches: &ArgMatches<'a>) -> Result<Command<'a>
     if name == "table" {
         return table_of(alloc, found);
     }
-    match other_of(name, found) {
-        Ok(command) => Ok(command),
-        Err(error) => Err(MuError::Arguments(error)),
-    }
+    other_of(name, found).map_err(MuError::Arguments)
 }
 
 /// The command of this name, which isn't `table`.
@@ -516,10 +513,7 @@ fn optional_name<'a>(matches: &ArgMatches<'a>, id: &str) -> Result<Option<&'a st
 {
     match matches.get_str(id) {
         None => Ok(None),
-        Some(name) => match named(name) {
-            Ok(name) => Ok(Some(name)),
-            Err(error) => Err(error),
-        },
+        Some(name) => Ok(Some(named(name)?)),
     }
 }
 

@@ -4,7 +4,7 @@ use Rattle.std.specs.Prelude.{◌↔◌}
 use Rattle.calculus.specs.Meaning.{marked, MarksOf}
 use Rattle.game.specs.Game.{Game, IsGame}
 use Rattle.game.specs.Wins.{OddWins, Wins}
-use Rattle.progress.specs.Laws.{NotBothWin, OneWins}
+use Rattle.measures.specs.Laws.{NotBothWin, OneWins}
 use Rattle.commands.specs.Winners.{AreWinners}
 
 -- Where Even's vertices are marked and no others, the others are Odd's.

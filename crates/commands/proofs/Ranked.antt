@@ -22,9 +22,9 @@ use Rattle.systems.specs.Label.{bytes_cmp}
 use Rattle.systems.specs.Numbered.{Numbered, AreAscending, AreUsed, IsInside, arrow_of, label_at}
 use Rattle.systems.specs.System.{Arrow}
 use Rattle.systems.specs.declared.system.Transition.{Transition}
-use Rattle.forms.specs.Nodes.{Node}
-use Rattle.forms.specs.View.{nodes_of, shape_of}
-use Rattle.forms.specs.declared.node.Node as declared
+use Rattle.calculus.specs.Nodes.{Node}
+use Rattle.calculus.specs.NodeView.{nodes_of, shape_of}
+use Rattle.calculus.specs.declared.node.Node as declared
 use Rattle.lts.proofs.Listed.{listed}
 use Rattle.commands.specs.Labels.{IsLabelsText, has_label, is_taken, label_line, rank_cmp, times_of}
 use Rattle.commands.specs.Ranking.{AreCounted, IsCounted, IsRanking, counted_at, counted_line_at, counted_line_of, times_among}

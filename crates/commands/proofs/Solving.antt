@@ -6,15 +6,15 @@ use Rattle.std.specs.Prelude.{◌↔◌, IsTrue, MatchResult}
 use Rattle.std.specs.Result.{IsErr}
 use Rattle.text.specs.Wrote.{WroteFront}
 use Rattle.text.specs.declared.write_loop.WriteFault.{WriteFault}
-use Rattle.certify.specs.Full.{IsFullText}
-use Rattle.certify.specs.Pair.{AreFull}
-use Rattle.certify.specs.declared.pair.EvidencePair.{EvidencePair}
+use Rattle.evidence.specs.Full.{IsFullText}
+use Rattle.evidence.specs.Pair.{AreFull}
+use Rattle.evidence.specs.declared.pair.EvidencePair.{EvidencePair}
 use Rattle.evidence.specs.Best.{IsEvenOf, IsOddOf}
 use Rattle.evidence.specs.Canon.{evidence_text}
 use Rattle.evidence.specs.Evidence.{IsGood, has}
 use Rattle.evidence.specs.Laws.{WrittenIsAccepted}
 use Rattle.evidence.specs.View.{NamedEvidence}
-use Rattle.forms.specs.declared.limits.TheConstants.{GREATEST_PRIORITY}
+use Rattle.calculus.specs.declared.limits.TheConstants.{GREATEST_PRIORITY}
 use Rattle.game.specs.Game.{Game, IsGame, greatest}
 use Rattle.game.specs.Wins.{OddWins, Wins}
 use Rattle.game.specs.declared.player.Player.TheVariants.{Even, Odd}

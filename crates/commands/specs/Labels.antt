@@ -14,9 +14,9 @@ use Rattle.systems.specs.Numbered.{AreAscending, AreLabelsOf}
 use Rattle.systems.specs.System.{System}
 use Rattle.calculus.specs.Holds.{holds}
 use Rattle.calculus.specs.Tree.{Formula}
-use Rattle.forms.specs.Nodes.{Node, nodes}
-use Rattle.forms.specs.Tree.{Shape, ModalityNode}
-use Rattle.forms.specs.declared.priorities.Priorities.TheVariants.{Nested}
+use Rattle.calculus.specs.Nodes.{Node, nodes}
+use Rattle.calculus.specs.NormalTree.{Shape, ModalityNode}
+use Rattle.calculus.specs.declared.priorities.Priorities.TheVariants.{Nested}
 use Rattle.lts.specs.Aut.{HasAutFault}
 use Rattle.lts.specs.Left.{RefusesAut}
 use Rattle.normal.specs.Refused.{HasRefusal}

@@ -4,12 +4,12 @@ use Rattle.text.specs.Taken.{Taken, Adds, Stays}
 use Rattle.text.specs.Wrote.{WroteFront}
 use Rattle.calculus.specs.Tree.{Formula}
 use Rattle.formula.specs.Checked.{IsTold}
-use Rattle.forms.specs.declared.limits.TheConstants.{MOST_NODES, GREATEST_PRIORITY}
-use Rattle.forms.specs.declared.priorities.Priorities.{Priorities}
+use Rattle.calculus.specs.declared.limits.TheConstants.{MOST_NODES, GREATEST_PRIORITY}
+use Rattle.calculus.specs.declared.priorities.Priorities.{Priorities}
 use Rattle.normal.specs.declared.error.NormalError.{NormalError}
-use Rattle.forms.specs.Tree.{node_count, depth, normal_form}
-use Rattle.forms.specs.Nodes.{greatest_node_priority}
-use Rattle.forms.specs.Rules.{nodes_with}
+use Rattle.calculus.specs.NormalTree.{node_count, depth, normal_form}
+use Rattle.calculus.specs.Nodes.{greatest_node_priority}
+use Rattle.calculus.specs.Rules.{nodes_with}
 use Rattle.normal.specs.NormalText.{normal_text}
 use Rattle.normal.specs.Refused.{HasRefusalWith}
 use Rattle.requests.specs.Texts.{IsFormulaOf}

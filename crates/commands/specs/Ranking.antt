@@ -4,7 +4,7 @@ use Rattle.std.specs.Coded.{Coded-set, coded_ℕ, le_prop}
 use Rattle.std.specs.List.{AllByRecursion, AllByRecursion-prop}
 use Rattle.systems.specs.Numbered.{Numbered, label_at}
 use Rattle.systems.specs.declared.system.Transition.{Transition}
-use Rattle.forms.specs.Nodes.{Node}
+use Rattle.calculus.specs.Nodes.{Node}
 use Rattle.commands.specs.Labels.{AreRanked, is_taken, label_line, times_of}
 use Rattle.commands.specs.declared.label_counts.Counted.{Counted}
 

@@ -4,9 +4,9 @@ use Rattle.text.specs.Taken.{Taken, Adds, Stays}
 use Rattle.text.specs.Wrote.{WroteFront}
 use Rattle.systems.specs.System.{System}
 use Rattle.calculus.specs.Tree.{Formula}
-use Rattle.forms.specs.declared.priorities.Priorities.TheVariants.{Nested}
+use Rattle.calculus.specs.declared.priorities.Priorities.TheVariants.{Nested}
 use Rattle.game.specs.Game.{Game}
-use Rattle.progress.specs.Tables.{IsSettled}
+use Rattle.measures.specs.Tables.{IsSettled}
 use Rattle.liftcore.specs.Core.{Core, starting_core}
 use Rattle.liftcore.specs.Replay.{replay_text}
 use Rattle.liftcore.specs.Runs.{Comes}

@@ -1,7 +1,7 @@
 -- What the command `solve` answers.
 use Rattle.std.specs.Prelude.{◌≡◌, ℕ, Bool, true, List, [], ◌∷◌, ◌⊎◌, Option, Some, Result, MatchResult}
 use Rattle.text.specs.Taken.{Taken}
-use Rattle.certify.specs.Full.{IsFullText}
+use Rattle.evidence.specs.Full.{IsFullText}
 use Rattle.evidence.specs.declared.error.EvidenceError.{EvidenceError}
 use Rattle.evidence.specs.declared.error.EvidenceError.TheVariants as evidence
 use Rattle.game.specs.Game.{Game}

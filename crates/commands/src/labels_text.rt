@@ -5,7 +5,7 @@ ghost use Rattle.std.specs.List.{flat_map, list_any};
 ghost use Rattle.text.specs.Wrote.{Wrote};
 ghost use Rattle.systems.specs.Numbered.{label_at};
 ghost use Rattle.calculus.specs.Closed.{closed_formula};
-ghost use Rattle.forms.specs.View.{nodes_of, shape_of};
+ghost use Rattle.calculus.specs.NodeView.{nodes_of, shape_of};
 ghost use Rattle.requests.specs.Causes.{HaveCauses};
 ghost use Rattle.requests.specs.Check.{AreSpelled};
 ghost use Rattle.commands.specs.Labels.{AnswersLabels, AreGiven, Lists, has_label, is_taken, label_end, label_line, times_of};
@@ -13,14 +13,14 @@ ghost use Rattle.commands.specs.Ranking.{AreCounted, AreCounted-prop, counted_li
 
 use crate::label_counts::{Counted, ranked_labels};
 use calculus::holds;
-use forms::node::{Kind, Node};
+use calculus::node::{Kind, Node};
 use lts::reader::read_aut;
 use lts::system::Lts;
 use lts::{LabelView, Piece, WriteFault, put, put_pieces};
 use normal::make::normal;
 use requests::error::MuError;
 use requests::texts::{Texts, read_both};
-use std::alloc::{AllocError, Global};
+use std::alloc::Global;
 use std::hash::BuildHasher;
 use text::batch::{Lines, put_lines};
 use text::sink::Sink;
@@ -43,14 +43,14 @@ pub fn labels_text<L: BuildHasher + Drop, R: Source + Drop, S: Source + Drop, W:
     ensures cause { IfErr result (HaveCauses R.can_fail S.can_fail) }
 {
     match formula {
-        None => match read_aut(alloc, hasher, aut) {
-            Ok(system) => write_labels(alloc, &system, &[], out),
-            Err(error) => Err(MuError::System(error)),
-        },
-        Some(formula) => match read_both(alloc, hasher, aut, formula) {
-            Ok(texts) => write_taken(alloc, &texts, out),
-            Err(error) => Err(error),
-        },
+        None => {
+            let system = read_aut(alloc, hasher, aut).map_err(MuError::System)?;
+            write_labels(alloc, &system, &[], out)
+        }
+        Some(formula) => {
+            let texts = read_both(alloc, hasher, aut, formula)?;
+            write_taken(alloc, &texts, out)
+        }
     }
 }
 
@@ -60,10 +60,8 @@ fn write_taken<W: Sink>(alloc: Global, texts: &Texts, out: &mut W) -> Result<boo
         → AnswersLabels first (Some second) (W.taken out.old) (W.taken out.new) result }
     ensures cause { IfErr result (HaveCauses false false) }
 {
-    match normal(alloc, &texts.formula) {
-        Ok(form) => write_labels(alloc, &texts.system, form.nodes(), out),
-        Err(error) => Err(MuError::Normal(error)),
-    }
+    let form = normal(alloc, &texts.formula).map_err(MuError::Normal)?;
+    write_labels(alloc, &texts.system, form.nodes(), out)
 }
 
 /// Writes the labels of the system, and which of them a normal form with these nodes takes.
@@ -77,13 +75,9 @@ fn write_labels<W: Sink>(
         → AnswersLabels first second (W.taken out.old) (W.taken out.new) result }
     ensures cause { IfErr result (HaveCauses false false) }
 {
-    match ranked_labels(alloc, system) {
-        Ok(ranked) => match put_labels(system, &ranked, nodes, out) {
-            Ok(()) => Ok(true),
-            Err(fault) => Err(MuError::Write(fault)),
-        },
-        Err(AllocError) => Err(MuError::Memory),
-    }
+    let ranked = ranked_labels(alloc, system)?;
+    put_labels(system, &ranked, nodes, out).map_err(MuError::Write)?;
+    Ok(true)
 }
 
 // A line for each of the labels.

@@ -8,7 +8,7 @@ ghost use Rattle.requests.specs.Texts.{IsFormulaOf};
 ghost use Rattle.commands.specs.Prints.{AnswersPrint, Prints};
 
 use calculus::closed::Closed;
-use forms::priorities::Priorities;
+use calculus::priorities::Priorities;
 use normal::make::normal_with;
 use normal::printer::print_normal;
 use requests::error::MuError;
@@ -32,10 +32,8 @@ pub fn normal_text<S: Source + Drop, W: Sink>(
     ensures prints { Prints priorities (S.remaining formula) (W.taken out.old) (W.taken out.new) result }
     ensures cause { IfErr result (HasCause S.can_fail error.Read) }
 {
-    match read_formula(alloc, formula) {
-        Ok(formula) => write_form(alloc, &formula, priorities, out),
-        Err(error) => Err(error),
-    }
+    let formula = read_formula(alloc, formula)?;
+    write_form(alloc, &formula, priorities, out)
 }
 
 /// Writes the normal form as a command asks for it: with the priorities of its rule.
@@ -64,11 +62,7 @@ fn write_form<W: Sink>(
     ensures answers { (text : List ℕ) → IsFormulaOf text (closed_formula formula.now) → AnswersPrint priorities text (W.taken out.old) (W.taken out.new) result }
     ensures cause { IfErr result (HasCause false error.Read) }
 {
-    match normal_with(alloc, formula, priorities) {
-        Ok(form) => match print_normal(&form, out) {
-            Ok(()) => Ok(true),
-            Err(fault) => Err(MuError::Write(fault)),
-        },
-        Err(error) => Err(MuError::Normal(error)),
-    }
+    let form = normal_with(alloc, formula, priorities).map_err(MuError::Normal)?;
+    print_normal(&form, out).map_err(MuError::Write)?;
+    Ok(true)
 }

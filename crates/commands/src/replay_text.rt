@@ -4,7 +4,7 @@ ghost use Rattle.std.specs.Prelude.{◌≡◌, ◌||◌, ℕ, IfErr, List, false
 ghost use Rattle.systems.specs.System.{System};
 ghost use Rattle.calculus.specs.Tree.{Formula};
 ghost use Rattle.calculus.specs.Closed.{closed_formula};
-ghost use Rattle.forms.specs.declared.priorities.Priorities.TheVariants.{Nested};
+ghost use Rattle.calculus.specs.declared.priorities.Priorities.TheVariants.{Nested};
 ghost use Rattle.liftcore.specs.Core.{starting_core};
 ghost use Rattle.requests.specs.Causes.{HaveCauses};
 ghost use Rattle.requests.specs.Check.{AreSpelled, HasGame};
@@ -12,7 +12,7 @@ ghost use Rattle.requests.specs.Check.{IsArenaOf};
 ghost use Rattle.commands.specs.Replays.{AnswersReplay, GivesNoSchedule, Replays, nested_game};
 ghost use Rattle.commands.specs.Spelled.{IsScheduleOf};
 
-use forms::priorities::Priorities;
+use calculus::priorities::Priorities;
 use game::graph::Game;
 use liftcore::error::{CoreError, ReadError, ScheduleError};
 use liftcore::event::Event;
@@ -58,10 +58,8 @@ pub fn replay_text<
     ensures replays { Replays workers (R.remaining aut) (S.remaining formula) (T.remaining schedule) (W.taken out.old) (W.taken out.new) result }
     ensures cause { IfErr result (HaveCauses R.can_fail (S.can_fail || T.can_fail)) }
 {
-    match read_both(alloc, hasher, aut, formula) {
-        Ok(texts) => replay_of(rt, alloc, &texts, schedule, workers, out),
-        Err(error) => Err(error),
-    }
+    let texts = read_both(alloc, hasher, aut, formula)?;
+    replay_of(rt, alloc, &texts, schedule, workers, out)
 }
 
 /// Replays as a command asks for it: with as many workers.
@@ -115,17 +113,15 @@ fn replay_of<T: Source + Drop, W: Sink, H: Threads + Sync>(
         → AnswersReplay workers first second third (W.taken out.old) (W.taken out.new) result }
     ensures cause { IfErr result (HaveCauses false T.can_fail) }
 {
-    match arena_of(
+    let game = arena_of(
         rt,
         alloc,
         &texts.system,
         &texts.formula,
         Priorities::Nested,
         None,
-    ) {
-        Ok(game) => replay_in(alloc, &game, schedule, workers, out),
-        Err(error) => Err(error),
-    }
+    )?;
+    replay_in(alloc, &game, schedule, workers, out)
 }
 
 /// Replays the schedule in a game that was made, and writes what it comes to.
@@ -141,10 +137,8 @@ fn replay_in<T: Source + Drop, W: Sink>(
         → AnswersReplay workers first second third (W.taken out.old) (W.taken out.new) result }
     ensures cause { IfErr result (HaveCauses false T.can_fail) }
 {
-    match read_events(alloc, schedule, workers, game.vertices()) {
-        Ok(events) => replay_events(alloc, game, &events, workers, out),
-        Err(error) => Err(error),
-    }
+    let events = read_events(alloc, schedule, workers, game.vertices())?;
+    replay_events(alloc, game, &events, workers, out)
 }
 
 /// The events of a schedule for so many workers and vertices.
@@ -198,8 +192,6 @@ fn follow_and_write<W: Sink>(
     ensures cause { IfErr result (HaveCauses false false) }
 {
     let tally = core.follow(events);
-    match write_replay(core, tally, out) {
-        Ok(()) => Ok(true),
-        Err(fault) => Err(MuError::Write(fault)),
-    }
+    write_replay(core, tally, out).map_err(MuError::Write)?;
+    Ok(true)
 }

@@ -2,19 +2,19 @@
 
 ghost use Rattle.std.specs.Prelude.{◌≡◌, IfErr, IfOk, Some};
 ghost use Rattle.std.specs.Arc.{arc_value};
-ghost use Rattle.certify.specs.Pair.{AreFull};
-ghost use Rattle.requests.specs.Solver.{FitsBoard, IsUnsolved};
+ghost use Rattle.evidence.specs.Pair.{AreFull};
+ghost use Rattle.requests.specs.Solver.{FitsBoard};
 ghost use Rattle.commands.specs.Solves.{IsUnproved};
 
-use certify::decide::certified_evidence;
-use certify::pair::EvidencePair;
+use calculus::limits::GREATEST_PRIORITY;
+use evidence::decide::certified_evidence;
 use evidence::error::EvidenceError;
 use evidence::law::written_is_accepted;
 use evidence::make::{even_evidence, odd_evidence_from};
-use forms::limits::GREATEST_PRIORITY;
+use evidence::pair::EvidencePair;
 use game::dual::greatest_priority;
 use game::graph::Game;
-use measures::observer::{Observer, Stage};
+use game::observer::{Observer, Stage};
 use measures::table::Settled;
 use requests::error::MuError;
 use requests::request::Options;
@@ -65,10 +65,8 @@ fn evidence_by_lifting<O: Observer + Sync, H: Threads + Wait + Clone + Copy + Dr
     ensures board { IfOk result (λ _. FitsBoard (Some options.now.board) (arc_value game.now)) }
     ensures refusal { IfErr result (IsUnproved options.now.board (arc_value game.now)) }
 {
-    match solve_seen(rt, alloc, game, options, &NoGate, observer, None) {
-        Ok(settled) => least_evidence(alloc, game, &settled),
-        Err(error) => Err(error),
-    }
+    let settled = solve_seen(rt, alloc, game, options, &NoGate, observer, None)?;
+    least_evidence(alloc, game, &settled)
 }
 
 /// The evidence that the least progress tables give.
@@ -83,11 +81,7 @@ fn least_evidence(alloc: Global, game: &Game, settled: &Settled) -> Result<Evide
     if greatest_priority(game) > GREATEST_PRIORITY {
         return Err(MuError::Evidence(EvidenceError::Memory));
     }
-    match even_evidence(alloc, game, settled) {
-        Ok(even) => match odd_evidence_from(alloc, game, settled) {
-            Ok(odd) => Ok(EvidencePair { even, odd }),
-            Err(error) => Err(MuError::Evidence(error)),
-        },
-        Err(error) => Err(MuError::Evidence(error)),
-    }
+    let even = even_evidence(alloc, game, settled).map_err(MuError::Evidence)?;
+    let odd = odd_evidence_from(alloc, game, settled).map_err(MuError::Evidence)?;
+    Ok(EvidencePair { even, odd })
 }

@@ -3,7 +3,7 @@
 ghost use Rattle.std.specs.Prelude.{◌≡◌, ℕ, IfErr, false, true, List, Some, Ok, Err, MatchResult, length};
 ghost use Rattle.std.specs.Arc.{arc_value};
 ghost use Rattle.std.specs.Option.{is_some};
-ghost use Rattle.certify.specs.Pair.{AreFull};
+ghost use Rattle.evidence.specs.Pair.{AreFull};
 ghost use Rattle.workers.specs.declared.team.BoardKind.{BoardKind};
 ghost use Rattle.requests.specs.Solver.{FitsBoard};
 ghost use Rattle.requests.specs.Writers.{AreWritten, report_writer};
@@ -18,11 +18,11 @@ ghost use Rattle.game.specs.Wins.{Wins};
 
 use crate::solution::evidence_by;
 use crate::winner_text::{are_winners, even_marks, write_winners};
-use certify::pair::EvidencePair;
+use evidence::pair::EvidencePair;
 use evidence::writer::write_evidence;
 use game::graph::Game;
+use game::observer::{Observer, Silent, Stage};
 use lts::WriteFault;
-use measures::observer::{Observer, Silent, Stage};
 use pgsolver::read_game;
 use requests::error::MuError;
 use requests::request::{Options, Solve};
@@ -49,10 +49,8 @@ pub fn solve_text<R: Source + Drop, W: Sink, H: Threads + Wait + Clone + Copy + 
     ensures solves { Solves options.now.board (R.remaining game) (report_writer Whole (W.taken out.old) (W.taken out.new)) result }
     ensures cause { IfErr result (HasCause R.can_fail game_unread) }
 {
-    match read_game(alloc, game) {
-        Ok(game) => solve_alone(rt, alloc, game, options, out),
-        Err(error) => Err(MuError::Game(error)),
-    }
+    let game = read_game(alloc, game).map_err(MuError::Game)?;
+    solve_alone(rt, alloc, game, options, out)
 }
 
 /// Solves the game, and writes who wins each vertex. Nobody watches.
@@ -67,10 +65,8 @@ fn solve_alone<W: Sink, H: Threads + Wait + Clone + Copy + Drop + Send + Sync>(
         → AnswersSolve options.now.board text (report_writer Whole (W.taken out.old) (W.taken out.new)) result }
     ensures cause { IfErr result (HasCause false game_unread) }
 {
-    match Arc::new(alloc, game) {
-        Ok(game) => solve_and_write(rt, alloc, &game, options, out, &Silent),
-        Err(_) => Err(MuError::Memory),
-    }
+    let game = Arc::new(alloc, game)?;
+    solve_and_write(rt, alloc, &game, options, out, &Silent)
 }
 
 /// Solves as `solve_text` does by the options of a request, and before that writes, where it is asked for, evidence of all that
@@ -99,10 +95,8 @@ pub fn solve_asked<
         (E.taken even.old) (E.taken even.new) (O.taken odd.old) (O.taken odd.new) (W.taken out.old) (W.taken out.new)) result }
     ensures cause { IfErr result (HasCause R.can_fail game_unread) }
 {
-    match read_game(alloc, game) {
-        Ok(game) => solve_read(rt, alloc, request, game, even, odd, out, observer),
-        Err(error) => Err(MuError::Game(error)),
-    }
+    let game = read_game(alloc, game).map_err(MuError::Game)?;
+    solve_read(rt, alloc, request, game, even, odd, out, observer)
 }
 
 /// Solves the game that was read, and writes what is asked for.
@@ -126,9 +120,7 @@ fn solve_read<
         (E.taken even.old) (E.taken even.new) (O.taken odd.old) (O.taken odd.new) (W.taken out.old) (W.taken out.new)) result }
     ensures cause { IfErr result (HasCause false game_unread) }
 {
-    let Ok(game) = Arc::new(alloc, game) else {
-        return Err(MuError::Memory);
-    };
+    let game = Arc::new(alloc, game)?;
     let options = &request.options;
     if request.evidence.is_some() {
         prove_and_write(rt, alloc, &game, options, even, odd, out, observer)
@@ -154,13 +146,9 @@ fn solve_and_write<
         → AnswersSolve options.now.board text (report_writer Whole (W.taken out.old) (W.taken out.new)) result }
     ensures cause { IfErr result (HasCause false game_unread) }
 {
-    match winners_by(rt, alloc, game, options, observer) {
-        Ok(marks) => {
-            observer.sees(Stage::Writing);
-            put_winners(game, &marks, out)
-        }
-        Err(error) => Err(error),
-    }
+    let marks = winners_by(rt, alloc, game, options, observer)?;
+    observer.sees(Stage::Writing);
+    put_winners(game, &marks, out)
 }
 
 /// Writes who wins each vertex.
@@ -195,13 +183,9 @@ fn prove_and_write<
         (E.taken even.new) (O.taken odd.old) (O.taken odd.new) (W.taken out.old) (W.taken out.new)) result }
     ensures cause { IfErr result (HasCause false game_unread) }
 {
-    match evidence_by(rt, alloc, game, options, observer) {
-        Ok(pair) => {
-            observer.sees(Stage::Writing);
-            write_all(alloc, game, &pair, even, odd, out)
-        }
-        Err(error) => Err(error),
-    }
+    let pair = evidence_by(rt, alloc, game, options, observer)?;
+    observer.sees(Stage::Writing);
+    write_all(alloc, game, &pair, even, odd, out)
 }
 
 /// Writes both texts of evidence, and who wins each vertex by them.
@@ -242,8 +226,6 @@ fn put_all<E: Sink, O: Sink, W: Sink>(
 fn answer(wrote: Result<(), WriteFault>) -> Result<bool, MuError>
     ensures { MatchResult wrote (λ _. result ≡ Ok true) (λ fault. result ≡ Err (MuError.Write fault)) }
 {
-    match wrote {
-        Ok(()) => Ok(true),
-        Err(fault) => Err(MuError::Write(fault)),
-    }
+    wrote.map_err(MuError::Write)?;
+    Ok(true)
 }

@@ -31,10 +31,8 @@ pub fn verify_text<R: Source + Drop, S: Source + Drop, W: Sink>(
     ensures verifies { Verifies (R.remaining game) (S.remaining evidence) (W.taken out.old) (W.taken out.new) result }
     ensures cause { IfErr result (AreCaused R.can_fail S.can_fail) }
 {
-    match read_game(alloc, game) {
-        Ok(game) => verify_for(alloc, &game, evidence, out),
-        Err(error) => Err(MuError::Game(error)),
-    }
+    let game = read_game(alloc, game).map_err(MuError::Game)?;
+    verify_for(alloc, &game, evidence, out)
 }
 
 /// Reads evidence for a game that was read, and writes the verdict.
@@ -48,10 +46,8 @@ fn verify_for<S: Source + Drop, W: Sink>(
         → AnswersVerify first second (W.taken out.old) (W.taken out.new) result }
     ensures cause { IfErr result (AreCaused false S.can_fail) }
 {
-    match read_evidence(alloc, evidence, game) {
-        Ok(evidence) => judge(game, &evidence, out),
-        Err(error) => Err(MuError::Evidence(error)),
-    }
+    let evidence = read_evidence(alloc, evidence, game).map_err(MuError::Evidence)?;
+    judge(game, &evidence, out)
 }
 
 /// Writes the verdict, and answers whether it is good.
@@ -62,10 +58,8 @@ fn judge<W: Sink>(game: &Game, evidence: &Evidence, out: &mut W) -> Result<bool,
     ensures cause { IfErr result (AreCaused false false) }
 {
     let verdict = verify(game, evidence);
-    match write_verdict(evidence, verdict, out) {
-        Ok(()) => Ok(matches!(verdict, Verdict::Good)),
-        Err(fault) => Err(MuError::Write(fault)),
-    }
+    write_verdict(evidence, verdict, out).map_err(MuError::Write)?;
+    Ok(matches!(verdict, Verdict::Good))
 }
 
 /// Writes whether two pieces of evidence are good, of different players, and together of every vertex of a game, or the first
@@ -84,10 +78,8 @@ pub fn verify_both_text<R: Source + Drop, S: Source + Drop, T: Source + Drop, W:
     ensures verifies { VerifiesBoth (R.remaining game) (S.remaining first) (T.remaining second) (W.taken out.old) (W.taken out.new) result }
     ensures cause { IfErr result (AreCaused R.can_fail (S.can_fail || T.can_fail)) }
 {
-    match read_game(alloc, game) {
-        Ok(game) => verify_both_for(alloc, &game, first, second, out),
-        Err(error) => Err(MuError::Game(error)),
-    }
+    let game = read_game(alloc, game).map_err(MuError::Game)?;
+    verify_both_for(alloc, &game, first, second, out)
 }
 
 /// Reads both pieces of evidence for a game that was read, and writes what is told of both.
@@ -102,10 +94,8 @@ fn verify_both_for<S: Source + Drop, T: Source + Drop, W: Sink>(
         → AnswersBoth text one other (W.taken out.old) (W.taken out.new) result }
     ensures cause { IfErr result (AreCaused false (S.can_fail || T.can_fail)) }
 {
-    match read_evidence(alloc, first, game) {
-        Ok(first) => verify_with(alloc, game, &first, second, out),
-        Err(error) => Err(MuError::Evidence(error)),
-    }
+    let first = read_evidence(alloc, first, game).map_err(MuError::Evidence)?;
+    verify_with(alloc, game, &first, second, out)
 }
 
 /// Reads the second piece of evidence where the first was read, and writes what is told of both.
@@ -121,10 +111,8 @@ fn verify_with<T: Source + Drop, W: Sink>(
         → AnswersBoth text one other (W.taken out.old) (W.taken out.new) result }
     ensures cause { IfErr result (AreCaused false T.can_fail) }
 {
-    match read_evidence(alloc, second, game) {
-        Ok(second) => judge_both(game, first, &second, out),
-        Err(error) => Err(MuError::Evidence(error)),
-    }
+    let second = read_evidence(alloc, second, game).map_err(MuError::Evidence)?;
+    judge_both(game, first, &second, out)
 }
 
 /// Writes what is told of both, and answers whether it is yes.
@@ -142,8 +130,6 @@ fn judge_both<W: Sink>(
     ensures cause { IfErr result (AreCaused false false) }
 {
     let both = check_both(game, first, second);
-    match write_both(first, second, both, out) {
-        Ok(()) => Ok(matches!(both, Both::Yes)),
-        Err(fault) => Err(MuError::Write(fault)),
-    }
+    write_both(first, second, both, out).map_err(MuError::Write)?;
+    Ok(matches!(both, Both::Yes))
 }

@@ -3,18 +3,18 @@
 ghost use Rattle.std.specs.Prelude.{◌≡◌, ◌++◌, length, count_by, decimal, IfErr, IfOk};
 ghost use Rattle.text.specs.Wrote.{Wrote};
 ghost use Rattle.calculus.specs.Meaning.{MarksOf};
-ghost use Rattle.certify.specs.Full.{IsFull};
+ghost use Rattle.evidence.specs.Full.{IsFull};
 ghost use Rattle.game.specs.Wins.{Wins};
 ghost use Rattle.commands.specs.Winners.{AreWinners, even_or_odd, sizes_text, winner_lines, winners_text as text_of};
 
-use certify::decide::set_marks;
+use evidence::decide::set_marks;
 use evidence::evidence::Evidence;
 use game::graph::Game;
 use game::player::Player;
 use laws::games::{not_both_win, one_wins};
 use lts::{Piece, WriteFault, put, put_number, put_pieces};
 use requests::error::MuError;
-use std::alloc::{AllocError, Global};
+use std::alloc::Global;
 use text::batch::{Lines, put_lines};
 use text::sink::Sink;
 
@@ -23,6 +23,7 @@ pub(crate) fn are_winners(game: &Game, marks: &[bool])
     requires { MarksOf (length game.now.vertices) marks.now (Wins game.now) }
     ensures { AreWinners game.now marks.now }
 {
+    // For the proof alone: clauses name it.
     let _ = marks;
     game.known();
     not_both_win();
@@ -42,10 +43,7 @@ pub(crate) fn even_marks(alloc: Global, game: &Game, even: &Evidence) -> Result<
     game.known();
     not_both_win();
     one_wins();
-    match set_marks(alloc, game, even) {
-        Ok(marks) => Ok(marks),
-        Err(AllocError) => Err(MuError::Memory),
-    }
+    Ok(set_marks(alloc, game, even)?)
 }
 
 /// Writes how many vertices there are, how many of them Even wins, and a line for each.

@@ -4,7 +4,7 @@ use crate::output::Target;
 use crate::refusal::{Cause, Refusal};
 use crate::same::refused;
 use crate::told::FileName;
-use invocation::names::{EvidenceNames, is_drawing};
+use command_line::names::{EvidenceNames, is_drawing};
 use requests::error::MuError;
 use requests::request::{ReportForm, Wanted, WitnessForm};
 use requests::writers::Writers;
@@ -42,12 +42,12 @@ pub struct Files<'a> {
     game_name: Option<&'a str>,
     evidence_names: Option<EvidenceNames>,
     witness_name: Option<&'a str>,
-    fault: OnceCell<Fault>,
+    fault: OnceCell<FileFault>,
 }
 
 /// What failed of one of them.
 #[derive(Drop)]
-struct Fault {
+struct FileFault {
     cause: Option<Cause>,
     /// It could not be made.
     is_unmade: bool,
@@ -129,7 +129,7 @@ impl<'a> Files<'a> {
     /// The answer of a run, or its refusal: where one of them could not be made, that, and of one that could not be written what the system says.
     pub fn conclude(mut self, answer: Result<bool, Refusal>) -> Result<bool, Refusal> {
         match (answer, self.fault.take()) {
-            (Err(refusal), Some(Fault { cause, is_unmade })) => {
+            (Err(refusal), Some(FileFault { cause, is_unmade })) => {
                 let error = if is_unmade {
                     MuError::File
                 } else {
@@ -141,12 +141,12 @@ impl<'a> Files<'a> {
         }
     }
 
-    /// The same error, of which what the system says is kept. It is tried again where it is an interruption.
+    /// Keeps what the system says of an error, and answers one of that kind. An interruption isn't kept, since the call is tried again.
     fn keep(&self, name: &str, error: Error, is_unmade: bool) -> Error {
         let kind = error.kind();
         if kind != ErrorKind::Interrupted {
             let cause = Cause::of(self.rt, name, error);
-            let _ = self.fault.set(Fault { cause, is_unmade });
+            let _ = self.fault.set(FileFault { cause, is_unmade });
         }
         Error::from(kind)
     }

@@ -2,10 +2,10 @@
 
 use crate::line::ProgressLine;
 use crate::refusal::Refusal;
-use gauge::Gauge;
-use invocation::inputs::is_standard_input;
+use command_line::inputs::is_standard_input;
+use game::gauge::Gauge;
+use game::observer::Observer;
 use lts::AutError;
-use measures::observer::Observer;
 use requests::error::MuError;
 use std::fs::File;
 use std::hash::RandomState;
@@ -23,7 +23,7 @@ pub fn take_descriptors(rt: &HostRuntime) -> [io::Result<File>; 3] {
 
 /// Where a text comes from.
 #[derive(Drop)]
-enum Source {
+enum InputSource {
     File(File),
     Standard(Stdin),
 }
@@ -31,7 +31,7 @@ enum Source {
 /// A file that is read, or standard input.
 #[derive(Drop)]
 pub struct Input {
-    source: Source,
+    source: InputSource,
     /// How many bytes it has, where that is known before it is read.
     size: Option<u64>,
 }
@@ -43,13 +43,13 @@ pub struct Input {
 pub fn open(rt: &HostRuntime, name: &str) -> Result<Input, Refusal> {
     if is_standard_input(name) {
         return Ok(Input {
-            source: Source::Standard(rt.stdin()),
+            source: InputSource::Standard(rt.stdin()),
             size: None,
         });
     }
     match File::open(rt, name) {
         Ok(file) => Ok(Input {
-            source: Source::File(file),
+            source: InputSource::File(file),
             size: size_of(rt, name),
         }),
         Err(error) => Err(Refusal::of_file(rt, name, error)),
@@ -80,8 +80,8 @@ fn size_of(rt: &HostRuntime, name: &str) -> Option<u64> {
 impl Read for Input {
     fn read(&mut self, bytes: &mut [u8]) -> io::Result<usize> {
         match &mut self.source {
-            Source::File(file) => file.read(bytes),
-            Source::Standard(input) => input.read(bytes),
+            InputSource::File(file) => file.read(bytes),
+            InputSource::Standard(input) => input.read(bytes),
         }
     }
 }

@@ -1,5 +1,4 @@
-// What the program has of files and a terminal: the files that it reads and makes, the line that says what it is doing, notes, and what is told of a
-// refusal.
+// Files and the terminal: what is read and made, the line that says what is being done, notes, refusals as they are told, commands without verdicts.
 #![tactic(auto)]
 
 pub mod fault;
@@ -12,6 +11,9 @@ pub mod refusal;
 pub mod same;
 mod sight;
 mod size;
+pub mod solve;
 pub mod stats;
+pub mod system;
+pub mod texts;
 pub mod told;
 mod wrong;

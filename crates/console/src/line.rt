@@ -4,10 +4,10 @@
 use crate::notes::note_all;
 use crate::stats::{Activity, Running, Stats, game_told};
 use calculus::closed::Closed;
-use gauge::{Gauge, Reading};
-use hints::strange::strange_words;
+use formula::strange::strange_words;
+use game::gauge::{Gauge, GaugeReading};
+use game::observer::{Observer, Stage};
 use lts::system::Lts;
-use measures::observer::{Observer, Stage};
 use requests::watch::Watcher;
 use std::alloc::{AllocError, Global};
 use std::io::{IsTerminal, Write};
@@ -46,7 +46,7 @@ struct Screen {
 
 /// What the run and the thread that writes the line share.
 #[derive(Drop)]
-struct Place {
+struct SharedLine {
     /// What the run does.
     step: Mutex<Activity>,
     /// How far that has come.
@@ -55,9 +55,9 @@ struct Place {
     over: Condvar,
 }
 
-impl Place {
-    fn new() -> Place {
-        Place {
+impl SharedLine {
+    fn new() -> SharedLine {
+        SharedLine {
             step: Mutex::new(Activity::Seen(Stage::ReadingSystem)),
             gauge: Gauge::new(),
             screen: Mutex::new(Screen {
@@ -73,12 +73,12 @@ impl Place {
 #[derive(Drop)]
 struct Progress {
     step: Activity,
-    reading: Option<Reading>,
+    reading: Option<GaugeReading>,
 }
 
 impl fmt::Display for Progress {
     fn fmt<W: fmt::Write>(&self, f: &mut fmt::Formatter<W>) -> fmt::Result {
-        let Some(Reading { done, whole }) = self.reading else {
+        let Some(GaugeReading { done, whole }) = self.reading else {
             return Ok(());
         };
         match self.step {
@@ -95,7 +95,7 @@ impl fmt::Display for Progress {
 }
 
 // Writes the line anew, some times a second, from the time on that a run may be without one.
-fn tick<T: Wait + Clock>(rt: HostRuntime, handle: &T, place: &Place) {
+fn tick<T: Wait + Clock>(rt: HostRuntime, handle: &T, place: &SharedLine) {
     let Ok(start) = Instant::now(handle) else {
         return;
     };
@@ -118,7 +118,7 @@ fn tick<T: Wait + Clock>(rt: HostRuntime, handle: &T, place: &Place) {
 }
 
 // Writes the line in place of the one that stands, if one does. Whether one stands afterwards.
-fn draw(rt: HostRuntime, place: &Place, step: Activity, is_drawn: bool, seconds: u64) -> bool {
+fn draw(rt: HostRuntime, place: &SharedLine, step: Activity, is_drawn: bool, seconds: u64) -> bool {
     let reading = place.gauge.reading();
     let progress = Progress { step, reading };
     let line: Result<String, AllocError> = format!(in rt.alloc();
@@ -139,7 +139,7 @@ pub struct ProgressLine<'a, T> {
     rt: HostRuntime,
     handle: &'a T,
     /// None where standard error is no terminal.
-    place: Option<Arc<Place, Global>>,
+    place: Option<Arc<SharedLine, Global>>,
     /// What goes on; where it is told of stages, None before the first.
     running: Mutex<Option<Running>>,
     stats: Stats,
@@ -159,7 +159,7 @@ impl<'a, T: Threads + Wait + Clock + Clone + Copy + Drop + Send + Sync + 'static
         name: Option<&'a str>,
     ) -> ProgressLine<'a, T> {
         let place = if rt.stderr().is_terminal() {
-            Arc::new(rt.alloc(), Place::new()).ok()
+            Arc::new(rt.alloc(), SharedLine::new()).ok()
         } else {
             None
         };

@@ -1,7 +1,7 @@
 // Notes on the words of a formula that no label of a system has.
 
 use crate::told::{FileName, say};
-use hints::strange::Word;
+use formula::strange::Word;
 use lts::system::Lts;
 use std::io;
 

@@ -12,7 +12,7 @@ use std::sync::Wait;
 
 /// Where a text goes. What is written to the program's own output is put behind what stands there.
 #[derive(Drop)]
-enum Sink {
+enum OutputTarget {
     File(File),
     Output,
     ErrorOutput,
@@ -21,7 +21,7 @@ enum Sink {
 /// Where a text goes, and whether that is a terminal.
 #[derive(Drop)]
 pub(crate) struct Target {
-    sink: Sink,
+    sink: OutputTarget,
     is_shown: bool,
 }
 
@@ -31,14 +31,14 @@ impl Target {
         Ok(match name {
             "/dev/stdout" => Target::output(rt),
             "/dev/stderr" => Target {
-                sink: Sink::ErrorOutput,
+                sink: OutputTarget::ErrorOutput,
                 is_shown: rt.stderr().is_terminal(),
             },
             _ => {
                 let file = File::create(rt, name)?;
                 let is_shown = file.is_terminal();
                 Target {
-                    sink: Sink::File(file),
+                    sink: OutputTarget::File(file),
                     is_shown,
                 }
             }
@@ -47,7 +47,7 @@ impl Target {
 
     fn output(rt: &HostRuntime) -> Target {
         Target {
-            sink: Sink::Output,
+            sink: OutputTarget::Output,
             is_shown: rt.stdout().is_terminal(),
         }
     }
@@ -57,12 +57,12 @@ impl Target {
         ensures { IfOk result (λ n. n ≤ length bytes.now) }
     {
         let written = match &self.sink {
-            Sink::File(file) => {
+            OutputTarget::File(file) => {
                 let mut file = file;
                 file.write(bytes)
             }
-            Sink::Output => io::writer(rt).write(bytes),
-            Sink::ErrorOutput => rt.stderr().write(bytes),
+            OutputTarget::Output => io::writer(rt).write(bytes),
+            OutputTarget::ErrorOutput => rt.stderr().write(bytes),
         };
         match written {
             Err(error) if error.kind() == ErrorKind::BrokenPipe => Ok(bytes.len()),

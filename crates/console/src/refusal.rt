@@ -3,9 +3,9 @@
 use crate::notes::is_near;
 use crate::sight::{Finding, NOTHING_FOUND, find};
 use crate::told::{FileName, say};
-use invocation::codes::code_entry;
-use invocation::inputs::is_standard_input;
-use invocation::request::Command;
+use command_line::codes::code_entry;
+use command_line::inputs::is_standard_input;
+use command_line::request::Command;
 use requests::error::{ArgumentError, MuError};
 use std::fs::File;
 use std::io::{ErrorKind, Read};

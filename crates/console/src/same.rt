@@ -1,10 +1,10 @@
-// The same file under two names: links, and names with other folders in front.
+// Whether two names are those of one file: links, and names with other folders in front.
 
 use crate::refusal::sources_of;
 use crate::told::FileName;
-use invocation::inputs::is_standard_input;
-use invocation::names::{EvidenceNames, is_device, over_game};
-use invocation::request::{Command, Outputs};
+use command_line::inputs::is_standard_input;
+use command_line::names::{EvidenceNames, is_device, over_game};
+use command_line::request::{Command, Outputs};
 use requests::error::{ArgumentError, CheckFile, MuError};
 use requests::request::{Check, ReportForm, Solve};
 use std::alloc::AllocError;
@@ -24,7 +24,7 @@ type Identity<'a> = (u64, u64, &'a str);
 
 /// A file of a command, with what it is, as far as the system tells.
 #[derive(Clone, Copy)]
-struct Place<'a> {
+struct NamedFile<'a> {
     file: CheckFile,
     identity: Option<Identity<'a>>,
     /// It is the program's own output, to which any number of texts may go.
@@ -138,7 +138,7 @@ pub(crate) fn refused(text: Result<String, AllocError>) -> MuError {
 }
 
 /// Refuses a place that is written to and is another one of these.
-fn all_apart(written: &[Place<'_>], read: &[Place<'_>]) -> Result<(), ArgumentError> {
+fn all_apart(written: &[NamedFile<'_>], read: &[NamedFile<'_>]) -> Result<(), ArgumentError> {
     for at in 0..written.len() {
         apart_from(&written[at], &written[at + 1..])?;
         apart_from(&written[at], read)?;
@@ -147,7 +147,7 @@ fn all_apart(written: &[Place<'_>], read: &[Place<'_>]) -> Result<(), ArgumentEr
 }
 
 /// Where the report goes, in a form in which there is one.
-fn reported<'a>(rt: &HostRuntime, report: ReportForm) -> Place<'a> {
+fn reported<'a>(rt: &HostRuntime, report: ReportForm) -> NamedFile<'a> {
     let name = match report {
         ReportForm::Nothing => None,
         _ => Some("/dev/stdout"),
@@ -156,18 +156,18 @@ fn reported<'a>(rt: &HostRuntime, report: ReportForm) -> Place<'a> {
 }
 
 /// The place of what is read under this name.
-fn read<'a>(rt: &HostRuntime, file: CheckFile, name: &'a str) -> Place<'a> {
+fn read<'a>(rt: &HostRuntime, file: CheckFile, name: &'a str) -> NamedFile<'a> {
     let is_input = is_standard_input(name);
     let name = if is_input { "/dev/stdin" } else { name };
-    Place {
+    NamedFile {
         is_own: false,
         ..place_of(rt, file, Some(name))
     }
 }
 
 /// The place of a text, where it is asked for.
-fn place_of<'a>(rt: &HostRuntime, file: CheckFile, name: Option<&'a str>) -> Place<'a> {
-    Place {
+fn place_of<'a>(rt: &HostRuntime, file: CheckFile, name: Option<&'a str>) -> NamedFile<'a> {
+    NamedFile {
         file,
         identity: name.and_then(|name| identify(rt, name)),
         is_own: name.is_some_and(is_device),
@@ -192,7 +192,7 @@ fn identify_in_folder<'a>(rt: &HostRuntime, name: &'a str) -> Option<Identity<'a
     Some((found.dev(), found.ino(), path.file_name()?))
 }
 
-fn apart_from(one: &Place<'_>, others: &[Place<'_>]) -> Result<(), ArgumentError> {
+fn apart_from(one: &NamedFile<'_>, others: &[NamedFile<'_>]) -> Result<(), ArgumentError> {
     let Some(own) = one.identity else {
         return Ok(());
     };

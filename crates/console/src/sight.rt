@@ -3,7 +3,7 @@
 use crate::input::lasts;
 use crate::told::say;
 use crate::wrong::{wrong_byte, wrong_counts, wrong_in_line, wrong_token};
-use invocation::codes::{BARE_LABEL, BLANK_LINE, BYTE_ORDER_MARK};
+use command_line::codes::{BARE_LABEL, BLANK_LINE, BYTE_ORDER_MARK};
 use requests::error::MuError;
 use requests::texts::read_front;
 use std::alloc::{AllocError, Global};

@@ -2,9 +2,9 @@
 
 ghost use Rattle.std.specs.Prelude.{◌<◌};
 
-use forms::form::Normal;
-use forms::labels::label_sets;
-use forms::node::Kind;
+use calculus::form::Normal;
+use calculus::label_sets::label_sets;
+use calculus::node::Kind;
 use lts::system::Lts;
 use std::alloc::{AllocError, Global};
 

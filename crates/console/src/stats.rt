@@ -2,10 +2,10 @@
 
 use crate::size::Size;
 use calculus::closed::Closed;
-use forms::form::Normal;
-use forms::priorities::Priorities;
+use calculus::form::Normal;
+use calculus::priorities::Priorities;
+use game::observer::Stage;
 use lts::system::Lts;
-use measures::observer::Stage;
 use normal::make::normal_with;
 use std::alloc::Global;
 use std::time::{Clock, Instant};

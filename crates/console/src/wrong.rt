@@ -6,7 +6,7 @@ use requests::texts::parse_front;
 use std::alloc::{AllocError, Global};
 
 /// What is told of a text, where it shows something, and want of memory.
-pub type Told = Result<Option<String>, AllocError>;
+pub type Explanation = Result<Option<String>, AllocError>;
 
 /// Tokens that begin a formula, a step, or a name alone, and what they stand for.
 static FIRST_TOKENS: [(&str, &str); 3] = [("mu", "a formula"), ("tau", "a step"), ("X", "a name")];
@@ -27,7 +27,7 @@ static NEXT_TOKENS: [(&str, &str); 11] = [
 ];
 
 /// What is wrong with the byte with which this begins, or with the label in quotes.
-pub fn wrong_byte(alloc: Global, rest: &[u8]) -> Told {
+pub fn wrong_byte(alloc: Global, rest: &[u8]) -> Explanation {
     let Some((byte, rest)) = rest.split_first() else {
         return Ok(None);
     };
@@ -51,7 +51,7 @@ fn told_of_byte(alloc: Global, byte: u8, what: &str, more: &str) -> Result<Strin
 }
 
 /// What is wrong with the label behind a quote.
-fn wrong_quote(alloc: Global, rest: &[u8]) -> Told {
+fn wrong_quote(alloc: Global, rest: &[u8]) -> Explanation {
     let line = rest.split(|byte| *byte == b'\n').next().unwrap_or(rest);
     if line.contains(&b'"') {
         wrong_label(alloc, line)
@@ -61,7 +61,7 @@ fn wrong_quote(alloc: Global, rest: &[u8]) -> Told {
 }
 
 /// What is wrong with the label of a line.
-pub fn wrong_in_line(alloc: Global, line: &[u8]) -> Told {
+pub fn wrong_in_line(alloc: Global, line: &[u8]) -> Explanation {
     match line.iter().position(|byte| *byte == b'"') {
         Some(quote) => wrong_label(alloc, &line[quote + 1..]),
         None => Ok(None),
@@ -69,7 +69,7 @@ pub fn wrong_in_line(alloc: Global, line: &[u8]) -> Told {
 }
 
 /// What is wrong with the label that stands here, up to a quote.
-fn wrong_label(alloc: Global, text: &[u8]) -> Told {
+fn wrong_label(alloc: Global, text: &[u8]) -> Explanation {
     match text
         .iter()
         .find(|byte| matches!(**byte, b'"' | ..b' ' | 127..))
@@ -83,12 +83,12 @@ fn wrong_label(alloc: Global, text: &[u8]) -> Told {
     }
 }
 
-fn sentence(alloc: Global, words: &str) -> Told {
+fn sentence(alloc: Global, words: &str) -> Explanation {
     Ok(Some(String::from_str(alloc, words)?))
 }
 
 /// How many lines of transitions this header announces, beside how many were found; nothing where it tells none.
-pub fn wrong_counts(alloc: Global, header: &[u8], found: usize) -> Told {
+pub fn wrong_counts(alloc: Global, header: &[u8], found: usize) -> Explanation {
     let Ok(header) = str::from_utf8(header) else {
         return Ok(None);
     };
@@ -105,7 +105,7 @@ pub fn wrong_counts(alloc: Global, header: &[u8], found: usize) -> Told {
 }
 
 /// What could stand in place of the token at this offset, or where the text ends.
-pub fn wrong_token(alloc: Global, text: &[u8], offset: usize) -> Told {
+pub fn wrong_token(alloc: Global, text: &[u8], offset: usize) -> Explanation {
     let front = text.get(..offset).unwrap_or(text).trim_ascii_end();
     match (front.last(), text.get(offset)) {
         (None, None) => return sentence(alloc, "the text is empty"),

@@ -10,19 +10,18 @@ use Rattle.requests.specs.Causes.{HaveCauses}
 use Rattle.requests.proofs.Caused.{no_read}
 use Rattle.verdicts.proofs.Beyond.{memory_caused}
 use Rattle.engines.specs.Prepared.{IsUnprepared, IsUnshown}
-use Rattle.verdicts.specs.declared.findings.Findings.{Findings}
 
-pub unshown_caused : (x : Findings) (aut formula : Bool) (e : MuError) → IsUnshown x e → HaveCauses aut formula e
-unshown_caused x aut formula e h = no_read (IsUnshown x) aut formula e (λ no. no) (λ no. no) h
+unevidenced_caused : (aut formula : Bool) (e : MuError) → e ≡ error.Evidence evidence.Memory → HaveCauses aut formula e
+unevidenced_caused aut formula e h = no_read (λ d. d ≡ error.Evidence evidence.Memory) aut formula e (λ no. absurd cc) (λ no. absurd cc) h
 
-pub unprepared_caused : (x : Findings) (wanted : Wanted) (aut formula : Bool) (e : MuError) → IsUnprepared x wanted e → HaveCauses aut formula e
-unprepared_caused x wanted aut formula e h = elim h [
-  | inl k ↦ no_read (λ d. d ≡ error.Evidence evidence.Memory) aut formula e (λ no. absurd cc) (λ no. absurd cc) k.1
-  | inr k ↦ elim k [
-    | inl shown ↦ unshown_caused x aut formula e shown.1
-    | inr memory ↦ memory_caused aut formula e memory
-  ]
-]
+pub unshown_caused : (aut formula : Bool) (e : MuError) → IsUnshown e → HaveCauses aut formula e
+unshown_caused aut formula e (inl h) = memory_caused aut formula e h
+unshown_caused aut formula e (inr h) = unevidenced_caused aut formula e h
+
+pub unprepared_caused : (wanted : Wanted) (aut formula : Bool) (e : MuError) → IsUnprepared wanted e → HaveCauses aut formula e
+unprepared_caused wanted aut formula e (inl h) = unevidenced_caused aut formula e h.1
+unprepared_caused wanted aut formula e (inr (inl h)) = unshown_caused aut formula e h.1
+unprepared_caused wanted aut formula e (inr (inr h)) = memory_caused aut formula e h
 
 -- what is answered of what was written
 pub written_caused : {T : Type 0} → (wrote : Result Unit WriteFault) (r : Result T MuError) (answer : T) (aut formula : Bool)

@@ -19,7 +19,7 @@ use Rattle.requests.specs.declared.request.ReportForm.{ReportForm}
 use Rattle.requests.specs.declared.request.Wanted.{Wanted}
 use Rattle.requests.specs.Command as request
 use Rattle.requests.specs.Strict.{AnswersBy, KnowsWords}
-use Rattle.engines.specs.Prepared.{IsUnprepared, IsUnshown}
+use Rattle.engines.specs.Prepared.{IsUnprepared}
 use Rattle.verdicts.specs.Findings.{AreFindings, formula_found, system_of, way_in}
 use Rattle.verdicts.specs.declared.findings.Findings.{Findings}
 
@@ -32,32 +32,18 @@ kept_writers wanted game even odd witness out = (Stays-refl game, (Stays-refl ev
 pub unprepared_of : (x : Findings) (wanted : Wanted) (first second : List ℕ) (writers : List Lent) (e : MuError)
     → AreSpelled first second (system_of x) (formula_found x)
     → AreFindings x → AreKept writers → (IsTrue wanted.evidence → IsLentFor EvenText writers)
-    → (IsTrue (is_some wanted.witness) → IsLentFor WitnessText writers ⊎ IsLentFor DrawingText writers) → IsUnprepared x wanted e
+    → (IsTrue (is_some wanted.witness) → IsLentFor WitnessText writers ⊎ IsLentFor DrawingText writers) → IsUnprepared wanted e
     → RefusesCheck (way_in x) first second writers e
 unprepared_of x wanted first second writers e spelled found kept even witness (inl (asked, is)) =
     subst (RefusesCheck (way_in x) first second writers) (sym is)
     (record { l = system_of x; f = formula_found x; spelled = spelled; within = found.marks.within; needed = inl (even asked); memory = refl }, kept)
 unprepared_of x wanted first second writers e spelled found kept even witness (inr (inr is)) =
     subst (RefusesCheck (way_in x) first second writers) (sym is) ((system_of x, spelled.system.spelled), kept)
-unprepared_of x wanted first second writers e spelled found kept even witness (inr (inl (asked, is))) = unshown e is
-  where
-    unshown : (e : MuError) → IsUnshown x e → RefusesCheck (way_in x) first second writers e
-    unshown error.Memory h = ((system_of x, spelled.system.spelled), kept)
-    unshown (error.Normal e) h = (record { l = system_of x; f = formula_found x; spelled = spelled; beyond = h }, kept)
-    unshown (error.Evidence e) h =
-        (record { l = system_of x; f = formula_found x; spelled = spelled; within = found.marks.within; needed = inr (witness asked); memory = h }, kept)
-    unshown (error.Build e) h = absurd h
-    unshown (error.Table e) h = absurd h
-    unshown (error.Solve e) h = absurd h
-    unshown (error.Arguments e) h = absurd h
-    unshown error.File h = absurd h
-    unshown error.Read h = absurd h
-    unshown (error.System e) h = absurd h
-    unshown (error.Formula e) h = absurd h
-    unshown (error.Game e) h = absurd h
-    unshown (error.Schedule e) h = absurd h
-    unshown (error.NoLabel offset) h = absurd h
-    unshown (error.Write e) h = absurd h
+unprepared_of x wanted first second writers e spelled found kept even witness (inr (inl (asked, inl is))) =
+    subst (RefusesCheck (way_in x) first second writers) (sym is) ((system_of x, spelled.system.spelled), kept)
+unprepared_of x wanted first second writers e spelled found kept even witness (inr (inl (asked, inr is))) =
+    subst (RefusesCheck (way_in x) first second writers) (sym is)
+    (record { l = system_of x; f = formula_found x; spelled = spelled; within = found.marks.within; needed = inr (witness asked); memory = refl }, kept)
 
 -- What was found one way is found an equal way.
 pub by_way : (p q : Way) (first second : List ℕ) (writers : List Lent) (r : Result Bool MuError) → p ≡ q → AnswersCheck p first second writers r
@@ -91,7 +77,7 @@ witness_lent (Some Drawing) h = inr refl
 -- Nothing was written where what is wanted could not be made.
 pub unprepared_all : (x : Findings) (wanted : Wanted) (first second : List ℕ) (game even odd witness out : Taken) (e : MuError)
     → AreSpelled first second (system_of x) (formula_found x)
-    → AreFindings x → IsUnprepared x wanted e → RefusesCheck (way_in x) first second (all_writers wanted game game even even odd odd witness witness out out) e
+    → AreFindings x → IsUnprepared wanted e → RefusesCheck (way_in x) first second (all_writers wanted game game even even odd odd witness witness out out) e
 unprepared_all x wanted first second game even odd witness out e spelled found is =
     unprepared_of x wanted first second (all_writers wanted game game even even odd odd witness witness out out) e spelled found
     (kept_writers wanted game even odd witness out)

@@ -18,10 +18,10 @@ use Rattle.game.specs.Game.{Game}
 use Rattle.evidence.specs.Best.{IsEvenOf, IsOddOf}
 use Rattle.evidence.specs.Canon.{evidence_text}
 use Rattle.evidence.specs.Evidence.{Evidence}
-use Rattle.certify.specs.declared.pair.EvidencePair.{EvidencePair}
+use Rattle.evidence.specs.declared.pair.EvidencePair.{EvidencePair}
 use Rattle.verdicts.specs.declared.findings.Findings.{Findings}
 use Rattle.engines.specs.declared.prepared.Prepared.{Prepared}
-use Rattle.engines.specs.declared.prepared.Shown.{Shown}
+use Rattle.engines.specs.declared.prepared.WitnessText.{WitnessText}
 use Rattle.requests.specs.declared.request.Wanted.{Wanted}
 use Rattle.engines.specs.Prepared.{AreShown, IsTextFound}
 use Rattle.verdicts.specs.Findings.{AreFindings, IsPairOf}
@@ -32,12 +32,12 @@ use Rattle.engines.proofs.Orders.{one_text, stopped_at, then_more, unasked}
 -- ------------------------------------------------------------------ the witness
 
 -- The kind of witness that is wanted is that of the one that was made.
-kind_made : (p : Prepared) (s : Shown) → p.shown ≡ Some s → option_map (λ (y : Shown). y.form) p.shown ≡ p.wanted.witness → Some s.form ≡ p.wanted.witness
-kind_made p s is form = sym (ap (option_map (λ (y : Shown). y.form)) is) ∙ form
+kind_made : (p : Prepared) (s : WitnessText) → p.shown ≡ Some s → option_map (λ (y : WitnessText). y.form) p.shown ≡ p.wanted.witness → Some s.form ≡ p.wanted.witness
+kind_made p s is form = sym (ap (option_map (λ (y : WitnessText). y.form)) is) ∙ form
 
 -- the witness was begun
-pub shown_stopped : {T E : Type 0} → (x : Findings) (p : Prepared) (s : Shown) (old new out : Taken) (r : Result T E) → p.shown ≡ Some s
-    → option_map (λ (y : Shown). y.form) p.shown ≡ p.wanted.witness → IsErr r
+pub shown_stopped : {T E : Type 0} → (x : Findings) (p : Prepared) (s : WitnessText) (old new out : Taken) (r : Result T E) → p.shown ≡ Some s
+    → option_map (λ (y : WitnessText). y.form) p.shown ≡ p.wanted.witness → IsErr r
     → AreWrittenUpTo (IsTextFound x) (lent_for (witness_kind (Some s.form)) old new ∷ [])
     → AreWritten (IsTextFound x) (lent_for (witness_kind p.wanted.witness) old new ∷ report_writer p.wanted.report out out) r
 shown_stopped x p s old new out r is form h up =
@@ -48,8 +48,8 @@ shown_stopped x p s old new out r is form h up =
     ]))
 
 -- it was written, and then the report
-pub shown_written : {T E : Type 0} → (x : Findings) (p : Prepared) (s : Shown) (old new out_old out_new : Taken) (r : Result T E) → p.shown ≡ Some s
-    → option_map (λ (y : Shown). y.form) p.shown ≡ p.wanted.witness → AreWhole (IsTextFound x) (lent_for (witness_kind (Some s.form)) old new ∷ [])
+pub shown_written : {T E : Type 0} → (x : Findings) (p : Prepared) (s : WitnessText) (old new out_old out_new : Taken) (r : Result T E) → p.shown ≡ Some s
+    → option_map (λ (y : WitnessText). y.form) p.shown ≡ p.wanted.witness → AreWhole (IsTextFound x) (lent_for (witness_kind (Some s.form)) old new ∷ [])
     → AreWritten (IsTextFound x) (report_writer p.wanted.report out_old out_new) r
     → AreWritten (IsTextFound x) (lent_for (witness_kind p.wanted.witness) old new ∷ report_writer p.wanted.report out_old out_new) r
 shown_written x p s old new out_old out_new r is form whole rest =

@@ -5,9 +5,9 @@ use Rattle.text.proofs.Writing.{Stays-refl}
 use Rattle.std.specs.Prelude.{IsTrue, MatchResult, slice_index_or}
 use Rattle.text.specs.Wrote.{Wrote}
 use Rattle.text.specs.declared.write_loop.WriteFault.{WriteFault}
-use Rattle.forms.specs.declared.priorities.Priorities.{Priorities}
-use Rattle.forms.specs.Nodes.{Node}
-use Rattle.forms.specs.Normal.{normal_nodes}
+use Rattle.calculus.specs.declared.priorities.Priorities.{Priorities}
+use Rattle.calculus.specs.Nodes.{Node}
+use Rattle.calculus.specs.Normal.{normal_nodes}
 use Rattle.why.specs.Story.{story_text}
 use Rattle.why.specs.declared.visit.Visit.{Visit}
 use Rattle.workers.specs.declared.team.BoardKind.{BoardKind}
@@ -21,12 +21,11 @@ use Rattle.requests.specs.Check.{AreSpelled, ByGame, RefusesCheck, Way}
 use Rattle.requests.specs.Strict.{HasRefusedBy, KnowsWords}
 use Rattle.requests.specs.Writers.{AreKept, Lent, WitnessText, lent_for}
 use Rattle.verdicts.specs.declared.findings.Findings.{Findings}
-use Rattle.engines.specs.declared.reasons.Told.{Told}
+use Rattle.engines.specs.declared.reasons.PlayVisits.{PlayVisits}
 use Rattle.engines.specs.Prepared.{IsUnshown}
 use Rattle.verdicts.specs.Findings.{AreFindings, formula_found, system_of, way_in}
 use Rattle.engines.specs.Reasons.{AreReasons, AreToldOf, HasNoReasons, TellsReasons, reasons}
 use Rattle.engines.specs.StrictReasons.{HasNoReasonsBy, TellsReasonsBy}
-use Rattle.engines.proofs.Checks.{unprepared_of}
 
 no_write : (fault : WriteFault) (place : ℕ) → ◌≡◌ {A = MuError} (error.Write fault) (error.NoLabel place) → ⊥
 no_write fault place h = cc
@@ -83,42 +82,27 @@ strictly_refused strict rule board limit first second old (error.NoLabel offset)
 
 -- Nothing was written where there was no memory for a witness.
 pub unshown_kept : (x : Findings) (limit : ℕ) (first second : List ℕ) (old : Taken) (e : MuError)
-    → AreSpelled first second (system_of x) (formula_found x) → AreFindings x → IsUnshown x e → HasNoReasons x.solution.priorities x.solution.board limit first second old old e
-unshown_kept x limit first second old e spelled found is = by e is (unprepared_of x wanted first second (lent_for WitnessText old old ∷ []) e spelled found
-    (Stays-refl old, tt) (λ no. absurd cc) (λ _. inl (inl refl)) (inr (inl (refl, is))))
-  where
-    wanted : Wanted
-    wanted = record { game = false; evidence = false; witness = Some AsSystem; report = Nothing }
-
-    by : (e : MuError) → IsUnshown x e → RefusesCheck (way_in x) first second (lent_for WitnessText old old ∷ []) e
-        → HasNoReasons x.solution.priorities x.solution.board limit first second old old e
-    by error.Memory h r = r
-    by (error.Normal e) h r = r
-    by (error.Evidence e) h r = r
-    by (error.Build e) h r = absurd h
-    by (error.Table e) h r = absurd h
-    by (error.Solve e) h r = absurd h
-    by (error.Arguments e) h r = absurd h
-    by error.File h r = absurd h
-    by error.Read h r = absurd h
-    by (error.System e) h r = absurd h
-    by (error.Formula e) h r = absurd h
-    by (error.Game e) h r = absurd h
-    by (error.Schedule e) h r = absurd h
-    by (error.NoLabel offset) h r = absurd h
-    by (error.Write e) h r = absurd h
+    → AreSpelled first second (system_of x) (formula_found x) → AreFindings x → IsUnshown e → HasNoReasons x.solution.priorities x.solution.board limit first second old old e
+unshown_kept x limit first second old e spelled found (inl is) =
+    subst (HasNoReasons x.solution.priorities x.solution.board limit first second old old) (sym is)
+    ((system_of x, spelled.system.spelled), (Stays-refl old, tt))
+unshown_kept x limit first second old e spelled found (inr is) =
+    subst (HasNoReasons x.solution.priorities x.solution.board limit first second old old) (sym is) (
+      record { l = system_of x; f = formula_found x; spelled = spelled; within = found.marks.within; needed = inr (inl (inl refl)); memory = refl },
+      (Stays-refl old, tt),
+    )
 
 -- What is told is the answer and a play that shows it.
-why_told : (x : Findings) (limit : ℕ) (told : Told) → AreToldOf x limit told
+why_told : (x : Findings) (limit : ℕ) (told : PlayVisits) → AreFindings x → AreToldOf x limit told
     → AreReasons x.solution.priorities limit (system_of x) (formula_found x) (slice_index_or x.marks.items (system_of x).initial false)
-    (reasons (formula_found x) (slice_index_or x.marks.items (system_of x).initial false) (system_of x) (normal_nodes told.normal) told.most
+    (reasons (formula_found x) (slice_index_or x.marks.items (system_of x).initial false) (system_of x) (normal_nodes x.solution.form) told.most
     told.visits.items told.heads.items told.count)
-why_told x limit told is = record {
+why_told x limit told found is = record {
   visits = told.visits.items;
   heads = told.heads.items;
   count = told.count;
   told = is.lines;
-  is = λ j. reasons (formula_found x) (slice_index_or x.marks.items (system_of x).initial false) (system_of x) (is.nodes j) (is.most j)
+  is = λ j. reasons (formula_found x) (slice_index_or x.marks.items (system_of x).initial false) (system_of x) (found.solution.form j) (is.most j)
       told.visits.items told.heads.items told.count;
 }
 
@@ -129,10 +113,10 @@ pub story_same : (t u : Texts) (nodes : List Node) (most : ℕ) (visits others :
 story_same t u nodes most visits others heads marks count et ev eh = λ j. story_text (et j).system.system nodes most (ev j) (eh j) count
 
 -- All was written, or a beginning.
-pub reasoned : (x : Findings) (limit : ℕ) (told : Told) (first second : List ℕ) (old new : Taken) (wrote : Result Unit WriteFault)
+pub reasoned : (x : Findings) (limit : ℕ) (told : PlayVisits) (first second : List ℕ) (old new : Taken) (wrote : Result Unit WriteFault)
     (r : Result Bool MuError) → AreFindings x → (system_of x).initial < (system_of x).states
     → AreSpelled first second (system_of x) (formula_found x) → AreToldOf x limit told
-    → Wrote old new wrote (reasons (formula_found x) (slice_index_or x.marks.items (system_of x).initial false) (system_of x) (normal_nodes told.normal)
+    → Wrote old new wrote (reasons (formula_found x) (slice_index_or x.marks.items (system_of x).initial false) (system_of x) (normal_nodes x.solution.form)
     told.most told.visits.items told.heads.items told.count)
     → MatchResult wrote (λ _. r ≡ Ok (slice_index_or x.marks.items (system_of x).initial false)) (λ fault. r ≡ Err (error.Write fault))
     → TellsReasons x.solution.priorities x.solution.board limit first second old new r
@@ -144,7 +128,7 @@ reasoned x limit told first second old new (Ok v) r found inside spelled is wrot
       within = found.marks.within;
       answered = found.marks.exact.exact (system_of x).initial inside;
       text = _;
-      why = why_told x limit told is;
+      why = why_told x limit told found is;
       written = wrote;
     })
 reasoned x limit told first second old new (Err fault) r found inside spelled is wrote e =
@@ -157,7 +141,7 @@ reasoned x limit told first second old new (Err fault) r found inside spelled is
         within = found.marks.within;
         answered = found.marks.exact.exact (system_of x).initial inside;
         text = _;
-        why = why_told x limit told is;
+        why = why_told x limit told found is;
         written = wrote;
       },
     )

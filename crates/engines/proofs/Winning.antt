@@ -8,12 +8,13 @@ use Rattle.calculus.specs.Admitted.{IsAdmitted}
 use Rattle.calculus.specs.Closed.{closed_formula}
 use Rattle.calculus.specs.Meaning.{MarksOf}
 use Rattle.calculus.specs.Tree.{Formula}
-use Rattle.forms.specs.Nodes.{Node}
-use Rattle.forms.specs.Rules.{nodes_with}
-use Rattle.forms.specs.Tree.{normal_form}
+use Rattle.calculus.specs.Nodes.{Node}
+use Rattle.calculus.specs.Normal.{normal_nodes}
+use Rattle.calculus.specs.Rules.{nodes_with}
+use Rattle.calculus.specs.NormalTree.{normal_form}
 use Rattle.game.specs.Game.{Game, IsGame}
 use Rattle.game.specs.Wins.{OddWins, Wins}
-use Rattle.progress.specs.Laws.{OneWins}
+use Rattle.measures.specs.Laws.{OneWins}
 use Rattle.laws.specs.Admissible.{IsNodes}
 use Rattle.laws.specs.Laws.{ChosenIsAdmissible}
 use Rattle.evidence.specs.Best.{IsEvenOf, IsOddOf}
@@ -24,7 +25,7 @@ use Rattle.witness.specs.Witness.{GoesOneWay, HasTaken, IsWinners, IsWitness, ro
 use Rattle.game.specs.Arena.{arena, place_in}
 use Rattle.why.specs.Story.{modality_of}
 use Rattle.engines.specs.Reasons.{AreToldOf, IsToldBy}
-use Rattle.engines.specs.declared.reasons.Told.{Told}
+use Rattle.engines.specs.declared.reasons.PlayVisits.{PlayVisits}
 use Rattle.requests.specs.Roots.{WinsRoot}
 use Rattle.requests.specs.declared.texts.Texts.{Texts}
 use Rattle.engines.specs.Prepared.{AreShown, IsWinning}
@@ -93,7 +94,7 @@ odd_winning x e found inside one game mark same odd good exact = record {
   root = (exact (root_in x)).1 (odd_there x found inside one game mark (root_in x) (root_at x found));
 }
 
--- the same of Odd's where it is made
+-- Odd's, where it is made
 pub odd_found : (x : Findings) (g : Game) (r : Result NamedEvidence EvidenceError) → AreFindings x → (system_of x).initial < (system_of x).states → OneWins
     → IsGame (game_in x) → mark_in x ≡ false
     → g ≡ game_in x → IfOk r (λ e. e.game ≡ g) → IfOk r (λ e. IsOddOf g e.evidence) → IfOk r (λ e. IsGood g e.evidence)
@@ -106,21 +107,19 @@ odd_found x g (Ok e) found inside one game mark same of odd good exact =
 odd_found x g (Err e) found inside one game mark same of odd good exact = tt
 
 -- that of a play that goes one way, where it is found, of the texts as they are read off what was found
-pub one_way_found : (x : Findings) (g : Game) (t u : Texts) (nodes : List Node) (o : Option NamedEvidence) → g ≡ game_in x → t ≡ x.texts.value → u ≡ x.texts.value
-    → nodes ≡ nodes_with x.solution.priorities (closed_formula t.formula)
-    → IfSome o (λ e. e.game ≡ g) → IfSome o (λ e. IsGood g e.evidence) → IfSome o (λ e. IsTrue (has e.evidence (root_of u.system.system nodes)))
+pub one_way_found : (x : Findings) (g : Game) (t : Texts) (o : Option NamedEvidence) → AreFindings x → g ≡ game_in x → t ≡ x.texts.value
+    → IfSome o (λ e. e.game ≡ g) → IfSome o (λ e. IsGood g e.evidence)
+    → IfSome o (λ e. IsTrue (has e.evidence (root_of t.system.system (normal_nodes x.solution.form))))
     → IfSome o (λ e. GoesOneWay g e.evidence)
     → IfSome o (IsWinning x)
-one_way_found x g t u nodes None same at_t at_u is game good root one = tt
-one_way_found x g t u nodes (Some e) same at_t at_u is game good root one =
-    let whole = subst (λ (y : Texts). nodes ≡ nodes_with x.solution.priorities (closed_formula y.formula)) at_t is in
-    record {
-      game = game ∙ same;
-      good = subst (λ (h : Game). IsGood h e.evidence) (sym game) good;
-      root = subst (λ (ns : List Node). IsTrue (has e.evidence (root_of (system_of x) ns))) whole
-          (subst (λ (y : Texts). IsTrue (has e.evidence (root_of y.system.system nodes))) at_u root);
-      kind = inl (subst (λ (h : Game). GoesOneWay h e.evidence) (sym game) one);
-    }
+one_way_found x g t None found same at game good root one = tt
+one_way_found x g t (Some e) found same at game good root one = record {
+  game = game ∙ same;
+  good = subst (λ (h : Game). IsGood h e.evidence) (sym game) good;
+  root = subst (λ (ns : List Node). IsTrue (has e.evidence (root_of (system_of x) ns))) found.solution.form
+      (subst (λ (y : Texts). IsTrue (has e.evidence (root_of y.system.system (normal_nodes x.solution.form)))) at root);
+  kind = inl (subst (λ (h : Game). GoesOneWay h e.evidence) (sym game) one);
+}
 
 -- Such evidence is the winner's.
 pub winners_of : (x : Findings) (e : NamedEvidence) → AreFindings x → IsWinning x e → IsEvidence e.game e.evidence
@@ -154,34 +153,29 @@ shown_by x e nodes part chosen found win is same inside taken witness =
       };
     }
 
--- the same of the texts as they are read off what was found
-pub shown_at : (x : Findings) (e : NamedEvidence) (t u : Texts) (nodes : List Node) (part : List Transition) → t ≡ x.texts.value → u ≡ x.texts.value
-    → ChosenIsAdmissible → AreFindings x → IsWinning x e → IsEvidence e.game e.evidence
-    → nodes ≡ nodes_with x.solution.priorities (closed_formula t.formula) → IsInside u.system part
-    → HasTaken u.system.system nodes e.evidence (system_with u.system part)
-    → ((f : Formula) → IsAdmitted f → IsNodes (normal_form f) nodes → IsWitness u.system.system f (system_with u.system part))
+-- What the play by such evidence takes is shown, of the texts as they are read off what was found.
+pub shown_at : (x : Findings) (e : NamedEvidence) (t : Texts) (part : List Transition) → t ≡ x.texts.value
+    → ChosenIsAdmissible → AreFindings x → IsWinning x e → IsEvidence e.game e.evidence → IsInside t.system part
+    → HasTaken t.system.system (normal_nodes x.solution.form) e.evidence (system_with t.system part)
+    → ((f : Formula) → IsAdmitted f → IsNodes (normal_form f) (normal_nodes x.solution.form) → IsWitness t.system.system f (system_with t.system part))
     → AreShown x part
-shown_at x e t u nodes part at_t at_u chosen found win is same inside taken witness =
-    shown_by x e nodes part chosen found win is
-    (subst (λ (y : Texts). nodes ≡ nodes_with x.solution.priorities (closed_formula y.formula)) at_t same)
-    (subst (λ (y : Texts). IsInside y.system part) at_u inside)
-    (subst (λ (y : Texts). HasTaken y.system.system nodes e.evidence (system_with y.system part)) at_u taken)
-    (subst (λ (y : Texts). (f : Formula) → IsAdmitted f → IsNodes (normal_form f) nodes → IsWitness y.system.system f (system_with y.system part))
-    at_u witness)
+shown_at x e t part at chosen found win is inside taken witness =
+    let ns = normal_nodes x.solution.form in
+    shown_by x e ns part chosen found win is found.solution.form
+    (subst (λ (y : Texts). IsInside y.system part) at inside)
+    (subst (λ (y : Texts). HasTaken y.system.system ns e.evidence (system_with y.system part)) at taken)
+    (subst (λ (y : Texts). (f : Formula) → IsAdmitted f → IsNodes (normal_form f) ns → IsWitness y.system.system f (system_with y.system part)) at witness)
 
 -- Visits that tell the play by such evidence are told, of the texts and the game as they are read off what was found.
-pub told_at : (x : Findings) (e : NamedEvidence) (g : Game) (t u : Texts) (nodes : List Node) (limit : ℕ) (told : Told) → AreFindings x → IsWinning x e
-    → IsEvidence e.game e.evidence → g ≡ game_in x → t ≡ x.texts.value → u ≡ x.texts.value
-    → nodes ≡ nodes_with x.solution.priorities (closed_formula t.formula)
-    → IsToldBy u.system.system nodes g e.evidence limit told → AreToldOf x limit told
-told_at x e g t u nodes limit told found win is at_g at_t at_u same by =
-    let rule = x.solution.priorities in
-    let whole = subst (λ (y : Texts). nodes ≡ nodes_with rule (closed_formula y.formula)) at_t same in
-    let here = subst (λ (h : Game). IsToldBy (system_of x) nodes h e.evidence limit told) (at_g ∙ found.solution.game.same)
-    (subst (λ (y : Texts). IsToldBy y.system.system nodes g e.evidence limit told) at_u by) in
-    let all = subst (λ (ns : List Node). IsToldBy (system_of x) ns (arena (system_of x) (nodes_with rule (formula_found x))) e.evidence limit told) whole here in
+pub told_at : (x : Findings) (e : NamedEvidence) (g : Game) (t : Texts) (limit : ℕ) (told : PlayVisits) → AreFindings x → IsWinning x e
+    → IsEvidence e.game e.evidence → g ≡ game_in x → t ≡ x.texts.value
+    → IsToldBy t.system.system (normal_nodes x.solution.form) g e.evidence limit told → AreToldOf x limit told
+told_at x e g t limit told found win is at_g at_t by =
+    let nodes = nodes_with x.solution.priorities (formula_found x) in
+    let here = subst (λ (h : Game). IsToldBy (system_of x) (normal_nodes x.solution.form) h e.evidence limit told) (at_g ∙ found.solution.game.same)
+    (subst (λ (y : Texts). IsToldBy y.system.system (normal_nodes x.solution.form) g e.evidence limit told) at_t by) in
+    let all = subst (λ (ns : List Node). IsToldBy (system_of x) ns (arena (system_of x) nodes) e.evidence limit told) found.solution.form here in
     record {
-      nodes = all.nodes;
       most = all.most;
       lines = record {
         evidence = e.evidence;
@@ -190,5 +184,5 @@ told_at x e g t u nodes limit told found win is at_g at_t at_u same by =
         back = all.back;
         cut = all.cut;
       };
-      texts = all.texts ∙ ap (map modality_of) (sym all.nodes);
+      texts = here.texts;
     }

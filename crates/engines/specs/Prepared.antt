@@ -4,8 +4,7 @@ use Rattle.std.specs.Arc.{arc_value}
 use Rattle.std.specs.Option.{is_some}
 use Rattle.systems.specs.Numbered.{IsInside, system_with}
 use Rattle.systems.specs.declared.system.Transition.{Transition}
-use Rattle.normal.specs.Refused.{HasRefusalWith}
-use Rattle.forms.specs.Rules.{nodes_with}
+use Rattle.calculus.specs.Rules.{nodes_with}
 use Rattle.evidence.specs.Best.{IsEvenOf, IsOddOf}
 use Rattle.evidence.specs.Evidence.{IsGood, has}
 use Rattle.evidence.specs.View.{NamedEvidence}
@@ -15,7 +14,7 @@ use Rattle.requests.specs.declared.error.MuError.{MuError}
 use Rattle.requests.specs.declared.error.MuError.TheVariants as error
 use Rattle.requests.specs.declared.request.Wanted.{Wanted}
 use Rattle.engines.specs.declared.prepared.Prepared.{Prepared}
-use Rattle.engines.specs.declared.prepared.Shown.{Shown}
+use Rattle.engines.specs.declared.prepared.WitnessText.{WitnessText}
 use Rattle.verdicts.specs.declared.findings.Findings.{Findings}
 use Rattle.requests.specs.Check.{IsTextOf}
 use Rattle.requests.specs.Report.{report_in}
@@ -38,22 +37,19 @@ pub record AreShown (x : Findings) (part : List Transition) : Type 0 where
   pub inside : IsInside x.texts.value.system part
   pub shown : IsShown (system_of x) (formula_found x) (nodes_with x.solution.priorities (formula_found x)) (system_with x.texts.value.system part)
 
--- Memory was wanting for a witness: that of the evidence, of the normal form or of the walk.
-abbrev pub IsUnshown : Findings → MuError → Type 0
-IsUnshown x error.Memory = Unit {0}
-IsUnshown x (error.Normal e) = HasRefusalWith x.solution.priorities (formula_found x) e
-IsUnshown x (error.Evidence e) = e ≡ evidence.Memory
-IsUnshown x e = ⊥
+-- There was no memory for a witness, or for the evidence by which it is found.
+abbrev pub IsUnshown : MuError → Type 0
+IsUnshown e = (e ≡ error.Memory) ⊎ (e ≡ error.Evidence evidence.Memory)
 
 -- The evidence and the witness that are wanted are made, and the report in its form.
 pub record ArePrepared (x : Findings) (p : Prepared) : Type 0 where
   pub pair : IfSome p.pair (IsPairOf (arc_value x.solution.game))
   pub evidence : is_some p.pair ≡ p.wanted.evidence
   pub shown : IfSome p.shown (λ shown. AreShown x shown.part.items)
-  pub form : option_map (λ (shown : Shown). shown.form) p.shown ≡ p.wanted.witness
+  pub form : option_map (λ (shown : WitnessText). shown.form) p.shown ≡ p.wanted.witness
   pub report : p.report.items ≡ report_in p.wanted.report (system_of x) (formula_found x) x.marks.items
 
--- Memory was wanting for what is wanted.
-abbrev pub IsUnprepared : Findings → Wanted → MuError → Type 0
-IsUnprepared x wanted e =
-    (IsTrue wanted.evidence × (e ≡ error.Evidence evidence.Memory)) ⊎ ((IsTrue (is_some wanted.witness) × IsUnshown x e) ⊎ (e ≡ error.Memory))
+-- There was no memory for what is wanted.
+abbrev pub IsUnprepared : Wanted → MuError → Type 0
+IsUnprepared wanted e =
+    (IsTrue wanted.evidence × (e ≡ error.Evidence evidence.Memory)) ⊎ ((IsTrue (is_some wanted.witness) × IsUnshown e) ⊎ (e ≡ error.Memory))

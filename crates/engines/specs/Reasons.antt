@@ -6,11 +6,11 @@ use Rattle.text.specs.Wrote.{WroteFront}
 use Rattle.systems.specs.System.{System}
 use Rattle.calculus.specs.Tree.{Formula}
 use Rattle.calculus.specs.Meaning.{Satisfies}
-use Rattle.forms.specs.declared.limits.TheConstants.{MOST_NODES}
-use Rattle.forms.specs.declared.priorities.Priorities.{Priorities}
-use Rattle.forms.specs.Normal.{normal_nodes}
-use Rattle.forms.specs.Rules.{nodes_with}
-use Rattle.forms.specs.Nodes.{Node}
+use Rattle.calculus.specs.declared.limits.TheConstants.{MOST_NODES}
+use Rattle.calculus.specs.declared.priorities.Priorities.{Priorities}
+use Rattle.calculus.specs.Normal.{normal_nodes}
+use Rattle.calculus.specs.Rules.{nodes_with}
+use Rattle.calculus.specs.Nodes.{Node}
 use Rattle.game.specs.Arena.{arena}
 use Rattle.game.specs.Game.{Game}
 use Rattle.evidence.specs.Evidence.{Evidence}
@@ -25,7 +25,7 @@ use Rattle.requests.specs.Check.{AreSpelled, ByGame, RefusesCheck, CanBeFound}
 use Rattle.requests.specs.Report.{formula_line}
 use Rattle.requests.specs.Writers.{WitnessText, lent_for}
 use Rattle.verdicts.specs.declared.findings.Findings.{Findings}
-use Rattle.engines.specs.declared.reasons.Told.{Told}
+use Rattle.engines.specs.declared.reasons.PlayVisits.{PlayVisits}
 use Rattle.verdicts.specs.Findings.{formula_found, system_of}
 
 -- how many visits are made at most: many enough for the lines that are told, of which there are at most so many, where that isn't 0
@@ -77,8 +77,7 @@ TellsReasons rule board limit first second old new result =
     (HasNoReasons rule board limit first second old new)
 
 -- The visits tell the play by this evidence, with what their text is made of.
-pub record IsToldBy (l : System) (ns : List Node) (g : Game) (e : Evidence) (limit : ℕ) (told : Told) : Type 0 where
-  pub nodes : normal_nodes told.normal ≡ ns
+pub record IsToldBy (l : System) (ns : List Node) (g : Game) (e : Evidence) (limit : ℕ) (told : PlayVisits) : Type 0 where
   pub telling : IsTelling g e (root_of l ns) (most_visits limit) told.visits.items
   pub most : told.most ≡ most_visits limit
   pub back : AreHeads told.visits.items told.heads.items
@@ -86,8 +85,7 @@ pub record IsToldBy (l : System) (ns : List Node) (g : Game) (e : Evidence) (lim
   pub texts : map (λ text. text.items) told.modalities.items ≡ map modality_of ns
 
 -- So it is of what was found, by the winner's evidence.
-pub record AreToldOf (x : Findings) (limit : ℕ) (told : Told) : Type 0 where
-  pub nodes : normal_nodes told.normal ≡ nodes_with x.solution.priorities (formula_found x)
+pub record AreToldOf (x : Findings) (limit : ℕ) (told : PlayVisits) : Type 0 where
   pub most : told.most ≡ most_visits limit
   pub lines : AreTold (system_of x) (nodes_with x.solution.priorities (formula_found x)) limit told.visits.items told.heads.items told.count
-  pub texts : map (λ text. text.items) told.modalities.items ≡ map modality_of (normal_nodes told.normal)
+  pub texts : map (λ text. text.items) told.modalities.items ≡ map modality_of (normal_nodes x.solution.form)

@@ -1,7 +1,7 @@
 -- What is told of why the initial state satisfies a formula, or doesn't, where the words of the formula may be asked about.
 use Rattle.std.specs.Prelude.{◌≡◌, ◌⊎◌, ℕ, Bool, List, [], ◌∷◌, Option, Some, Result, MatchResult, IsTrue}
 use Rattle.text.specs.Taken.{Taken, Adds}
-use Rattle.forms.specs.declared.priorities.Priorities.{Priorities}
+use Rattle.calculus.specs.declared.priorities.Priorities.{Priorities}
 use Rattle.workers.specs.declared.team.BoardKind.{BoardKind}
 use Rattle.requests.specs.declared.error.MuError.{MuError}
 use Rattle.requests.specs.Strict.{MayComeFirst, IsWordRefusal, KnowsWords}

@@ -5,7 +5,7 @@ ghost use Rattle.engines.specs.Prepared.{ArePrepared, AreShown, IsTextFound};
 ghost use Rattle.verdicts.specs.Findings.{AreFindings};
 ghost use Rattle.requests.specs.Writers.{AreWritten, EvenText, OddText, all_writers, kind_where, lent_for, report_writer, witness_kind};
 
-use crate::prepared::{Prepared, Shown, initial_mark};
+use crate::prepared::{Prepared, WitnessText, initial_mark};
 use evidence::writer::write_evidence;
 use lts::writer::write_part;
 use lts::{WriteFault, put};
@@ -94,7 +94,11 @@ fn put_report<W: Sink>(found: &Findings, prepared: &Prepared, out: &mut W) -> Re
 }
 
 /// Writes the witness in its form.
-fn put_witness<V: Sink>(found: &Findings, shown: &Shown, out: &mut V) -> Result<(), WriteFault>
+fn put_witness<V: Sink>(
+    found: &Findings,
+    shown: &WitnessText,
+    out: &mut V,
+) -> Result<(), WriteFault>
     requires found { AreFindings found.now }
     requires shown { AreShown found.now shown.now.part.items }
     ensures { AreWritten (IsTextFound found.now) (lent_for (witness_kind (Some shown.now.form)) (V.taken out.old) (V.taken out.new) ∷ []) result }
@@ -112,8 +116,6 @@ pub fn answer(found: &Findings, wrote: Result<(), WriteFault>) -> Result<bool, M
     ensures { MatchResult wrote (λ _. result ≡ Ok (slice_index_or found.now.marks.items found.now.texts.value.system.system.initial false))
         (λ fault. result ≡ Err (MuError.Write fault)) }
 {
-    match wrote {
-        Ok(()) => Ok(initial_mark(found)),
-        Err(fault) => Err(MuError::Write(fault)),
-    }
+    wrote.map_err(MuError::Write)?;
+    Ok(initial_mark(found))
 }

@@ -3,31 +3,31 @@
 ghost use Rattle.std.specs.Prelude.{◌≡◌, ◌<◌, IfOk, IfErr, IfSome, IsTrue, option_map, slice_index_or, false};
 ghost use Rattle.std.specs.Arc.{arc_value};
 ghost use Rattle.std.specs.Option.{is_some};
-ghost use Rattle.engines.specs.declared.prepared.Shown.{Shown};
+ghost use Rattle.engines.specs.declared.prepared.WitnessText.{WitnessText};
 ghost use Rattle.engines.specs.Prepared.{ArePrepared, AreShown, IsUnprepared, IsUnshown, IsWinning};
 ghost use Rattle.verdicts.specs.Findings.{AreFindings, IsPairOf, formula_found, system_of};
 ghost use Rattle.requests.specs.Report.{report_in};
 
-use certify::pair::EvidencePair;
 use evidence::error::EvidenceError;
 use evidence::evidence::Evidence;
 use evidence::make::even_evidence;
+use evidence::pair::EvidencePair;
 use lassos::making::one_way_evidence;
 use laws::chosen_is_admissible;
 use laws::games::one_wins;
-use lts::{Memory, Transition};
-use normal::make::normal_with;
-use reports::report::report_text;
+use lts::Transition;
 use requests::error::MuError;
+use requests::report::report_text;
 use requests::request::{ReportForm, Wanted, WitnessForm};
 use std::alloc::Global;
 use verdicts::findings::{Findings, odd_evidence_found};
+use verdicts::lifting::SolvedGame;
 use verdicts::pairs::evidence_pair;
 use witness::part::witness;
 
 /// A witness, and the form in which it is written.
 #[derive(Drop)]
-pub struct Shown {
+pub struct WitnessText {
     pub form: WitnessForm,
     pub part: Vec<Transition>,
 }
@@ -37,19 +37,19 @@ pub struct Shown {
 pub struct Prepared {
     pub wanted: Wanted,
     pub pair: Option<EvidencePair>,
-    pub shown: Option<Shown>,
+    pub shown: Option<WitnessText>,
     pub report: Vec<u8>,
 }
 
 /// Makes what is wanted.
 ///
 /// # Errors
-/// E5 and U4 for want of memory, N3 for that of the normal form, by which a witness is found.
+/// E5 and U4 for want of memory.
 pub(crate) fn prepare(alloc: Global, found: &Findings, wanted: Wanted) -> Result<Prepared, MuError>
     requires { AreFindings found.now }
     ensures prepared { IfOk result (ArePrepared found.now) }
     ensures wanted { IfOk result (λ prepared. prepared.wanted ≡ wanted) }
-    ensures refusal { IfErr result (IsUnprepared found.now wanted) }
+    ensures refusal { IfErr result (IsUnprepared wanted) }
 {
     let pair = pair_where(alloc, found, wanted.evidence)?;
     prepare_beside(alloc, found, wanted, pair)
@@ -67,7 +67,7 @@ fn prepare_beside(
     requires evidence { is_some pair ≡ wanted.evidence }
     ensures prepared { IfOk result (ArePrepared found.now) }
     ensures wanted { IfOk result (λ prepared. prepared.wanted ≡ wanted) }
-    ensures refusal { IfErr result (IsUnprepared found.now wanted) }
+    ensures refusal { IfErr result (IsUnprepared wanted) }
 {
     let shown = shown_where(alloc, found, wanted.witness, &pair)?;
     let report = report_of(alloc, found, wanted.report)?;
@@ -103,10 +103,7 @@ fn pair_where(
     if !wanted {
         return Ok(None);
     }
-    match evidence_pair(alloc, found) {
-        Ok(pair) => Ok(Some(pair)),
-        Err(error) => Err(error),
-    }
+    Ok(Some(evidence_pair(alloc, found)?))
 }
 
 /// A witness, if it is wanted, by what there is of evidence.
@@ -115,18 +112,18 @@ fn shown_where(
     found: &Findings,
     form: Option<WitnessForm>,
     pair: &Option<EvidencePair>,
-) -> Result<Option<Shown>, MuError>
+) -> Result<Option<WitnessText>, MuError>
     requires found { AreFindings found.now }
     requires pair { IfSome pair.now (IsPairOf (arc_value found.now.solution.game)) }
     ensures shown { IfOk result (λ shown. IfSome shown (λ x. AreShown found.now x.part.items)) }
-    ensures form { IfOk result (λ shown. option_map (λ (x : Shown). x.form) shown ≡ form) }
-    ensures refusal { IfErr result (λ e. IsTrue (is_some form) × IsUnshown found.now e) }
+    ensures form { IfOk result (λ shown. option_map (λ (x : WitnessText). x.form) shown ≡ form) }
+    ensures refusal { IfErr result (λ e. IsTrue (is_some form) × IsUnshown e) }
 {
     let Some(form) = form else {
         return Ok(None);
     };
     let part = part_of(alloc, found, pair)?;
-    Ok(Some(Shown { form, part }))
+    Ok(Some(WitnessText { form, part }))
 }
 
 /// The transitions of a witness: of a play that goes one way from each vertex, where one is found, and else of that by the evidence of all that the
@@ -139,7 +136,7 @@ fn part_of(
     requires found { AreFindings found.now }
     requires pair { IfSome pair.now (IsPairOf (arc_value found.now.solution.game)) }
     ensures shown { IfOk result (λ part. AreShown found.now part.items) }
-    ensures refusal { IfErr result (IsUnshown found.now) }
+    ensures refusal { IfErr result IsUnshown }
 {
     match pair {
         Some(pair) => match one_way(alloc, found)? {
@@ -154,14 +151,11 @@ fn part_of(
 pub(crate) fn winning_evidence(alloc: Global, found: &Findings) -> Result<Evidence, MuError>
     requires { AreFindings found.now }
     ensures winning { IfOk result (IsWinning found.now) }
-    ensures refusal { IfErr result (IsUnshown found.now) }
+    ensures refusal { IfErr result IsUnshown }
 {
     match one_way(alloc, found)? {
         Some(evidence) => Ok(evidence),
-        None => match winner_evidence(alloc, found) {
-            Ok(evidence) => Ok(evidence),
-            Err(error) => Err(MuError::Evidence(error)),
-        },
+        None => winner_evidence(alloc, found).map_err(MuError::Evidence),
     }
 }
 
@@ -169,23 +163,16 @@ pub(crate) fn winning_evidence(alloc: Global, found: &Findings) -> Result<Eviden
 fn one_way(alloc: Global, found: &Findings) -> Result<Option<Evidence>, MuError>
     requires { AreFindings found.now }
     ensures winning { IfOk result (λ evidence. IfSome evidence (IsWinning found.now)) }
-    ensures refusal { IfErr result (IsUnshown found.now) }
+    ensures refusal { IfErr result IsUnshown }
 {
-    let texts = &found.texts;
-    let solution = &found.solution;
-    match normal_with(alloc, &texts.formula, solution.priorities) {
-        Ok(normal) => match one_way_evidence(
-            alloc,
-            &texts.system,
-            &normal,
-            &solution.game,
-            &solution.settled,
-        ) {
-            Ok(evidence) => Ok(evidence),
-            Err(Memory) => Err(MuError::Memory),
-        },
-        Err(error) => Err(MuError::Normal(error)),
-    }
+    let SolvedGame {
+        form,
+        game,
+        settled,
+        ..
+    } = &found.solution;
+    let system = &found.texts.system;
+    Ok(one_way_evidence(alloc, system, form, game, settled)?)
 }
 
 /// The winner's of both players' evidence.
@@ -224,24 +211,13 @@ fn part_by(alloc: Global, found: &Findings, evidence: &Evidence) -> Result<Vec<T
     requires found { AreFindings found.now }
     requires winning { IsWinning found.now evidence.now }
     ensures shown { IfOk result (λ part. AreShown found.now part.items) }
-    ensures refusal { IfErr result (IsUnshown found.now) }
+    ensures refusal { IfErr result IsUnshown }
 {
     chosen_is_admissible();
     evidence.known();
-    let texts = &found.texts;
-    match normal_with(alloc, &texts.formula, found.solution.priorities) {
-        Ok(normal) => match witness(
-            alloc,
-            &texts.system,
-            &normal,
-            &found.solution.game,
-            evidence,
-        ) {
-            Ok(part) => Ok(part),
-            Err(Memory) => Err(MuError::Memory),
-        },
-        Err(error) => Err(MuError::Normal(error)),
-    }
+    let SolvedGame { form, game, .. } = &found.solution;
+    let system = &found.texts.system;
+    Ok(witness(alloc, system, form, game, evidence)?)
 }
 
 /// Whether the initial state satisfies the formula.

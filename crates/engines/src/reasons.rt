@@ -6,7 +6,7 @@ ghost use Rattle.calculus.specs.Closed.{closed_formula};
 ghost use Rattle.text.specs.Wrote.{Wrote};
 ghost use Rattle.requests.specs.Causes.{HaveCauses};
 ghost use Rattle.requests.specs.Check.{AreSpelled};
-ghost use Rattle.forms.specs.Normal.{normal_nodes};
+ghost use Rattle.calculus.specs.Normal.{normal_nodes};
 ghost use Rattle.game.specs.Arena.{arena};
 ghost use Rattle.evidence.specs.Evidence.{IsGood, has as has_entry};
 ghost use Rattle.witness.specs.Witness.{root_of};
@@ -18,15 +18,14 @@ ghost use Rattle.engines.specs.StrictReasons.{TellsWhyBy};
 
 use crate::outputs::answer;
 use crate::prepared::{initial_mark, winning_evidence};
+use calculus::form::Normal;
+use calculus::limits::MOST_NODES;
 use evidence::evidence::Evidence;
-use forms::form::Normal;
-use forms::limits::MOST_NODES;
 use game::graph::Game;
+use game::observer::{Observer, Stage};
 use lts::{Lts, Memory, Piece, WriteFault, put_pieces};
-use measures::observer::{Observer, Stage};
-use normal::make::normal_with;
-use reports::report::write_formula_line;
 use requests::error::MuError;
+use requests::report::write_formula_line;
 use requests::request::Why;
 use requests::texts::{Texts, read_asked};
 use requests::watch::Watcher;
@@ -37,17 +36,17 @@ use std::thread::Threads;
 use text::sink::Sink;
 use text::source::Source;
 use verdicts::findings::{Findings, find_in};
+use verdicts::lifting::SolvedGame;
 use why::setting::{has_branch, heads, modality_texts, told_within, verdict};
 use why::visit::Visit;
 use why::walk::telling;
 use why::writer::{Story, write_story};
 use witness::part::root_vertex;
 
-/// The visits that tell a play, by a normal form: the text of each node's modality, how many visits are made at most, which of them a run comes back
+/// The visits that tell a play: the text of the modality of each node of the normal form, how many visits are made at most, which of them a run comes back
 /// to, and how many are told.
 #[derive(Drop)]
-pub(crate) struct Told {
-    pub(crate) normal: Normal,
+pub(crate) struct PlayVisits {
     pub(crate) modalities: Vec<Vec<u8>>,
     pub(crate) most: usize,
     pub(crate) visits: Vec<Visit>,
@@ -82,10 +81,8 @@ pub fn tell_why<
         (S.remaining formula) (W.taken out.old) (W.taken out.new) result }
     ensures cause { IfErr result (HaveCauses R.can_fail S.can_fail) }
 {
-    match read_asked(alloc, hasher, aut, formula, request.strict, watcher) {
-        Ok(texts) => tell_read(rt, alloc, texts, request, out, watcher),
-        Err(error) => Err(error),
-    }
+    let texts = read_asked(alloc, hasher, aut, formula, request.strict, watcher)?;
+    tell_read(rt, alloc, texts, request, out, watcher)
 }
 
 /// Tells why, of texts that were read.
@@ -102,15 +99,11 @@ fn tell_read<W: Sink, U: Watcher + Sync, H: Threads + Wait + Clone + Copy + Drop
         (W.taken out.new) result }
     ensures cause { IfErr result (HaveCauses false false) }
 {
-    match find_in(rt, alloc, texts, &request.options, watcher) {
-        Ok(found) => {
-            watcher.sees(Stage::MakingEvidence {
-                vertices: found.solution.game.vertices(),
-            });
-            tell_found(alloc, &found, request.limit, out, watcher)
-        }
-        Err(error) => Err(error),
-    }
+    let found = find_in(rt, alloc, texts, &request.options, watcher)?;
+    watcher.sees(Stage::MakingEvidence {
+        vertices: found.solution.game.vertices(),
+    });
+    tell_found(alloc, &found, request.limit, out, watcher)
 }
 
 /// Tells why, where this was found out.
@@ -126,27 +119,22 @@ fn tell_found<W: Sink, U: Watcher>(
         → TellsReasons found.now.solution.priorities found.now.solution.board limit first second (W.taken out.old) (W.taken out.new) result }
     ensures cause { IfErr result (HaveCauses false false) }
 {
-    match told_of(alloc, found, limit) {
-        Ok(told) => {
-            watcher.sees(Stage::Writing);
-            let _initial = found.texts.system.initial();
-            let wrote = put_reasons(found, &told, out);
-            answer(found, wrote)
-        }
-        Err(error) => Err(error),
-    }
+    let told = told_of(alloc, found, limit)?;
+    watcher.sees(Stage::Writing);
+    // For the proof: the clauses of this call say what the system has.
+    let _initial = found.texts.system.initial();
+    let wrote = put_reasons(found, &told, out);
+    answer(found, wrote)
 }
 
 /// What is told of the answer.
-fn told_of(alloc: Global, found: &Findings, limit: u32) -> Result<Told, MuError>
+fn told_of(alloc: Global, found: &Findings, limit: u32) -> Result<PlayVisits, MuError>
     requires { AreFindings found.now }
     ensures told { IfOk result (AreToldOf found.now limit) }
-    ensures refusal { IfErr result (IsUnshown found.now) }
+    ensures refusal { IfErr result IsUnshown }
 {
-    match winning_evidence(alloc, found) {
-        Ok(evidence) => told_by(alloc, found, &evidence, limit),
-        Err(error) => Err(error),
-    }
+    let evidence = winning_evidence(alloc, found)?;
+    told_by(alloc, found, &evidence, limit)
 }
 
 /// What is told of the play by this evidence.
@@ -155,53 +143,40 @@ fn told_by(
     found: &Findings,
     evidence: &Evidence,
     limit: u32,
-) -> Result<Told, MuError>
+) -> Result<PlayVisits, MuError>
     requires found { AreFindings found.now }
     requires winning { IsWinning found.now evidence.now }
     ensures told { IfOk result (AreToldOf found.now limit) }
-    ensures refusal { IfErr result (IsUnshown found.now) }
+    ensures refusal { IfErr result IsUnshown }
 {
     evidence.known();
-    let texts = &found.texts;
-    match normal_with(alloc, &texts.formula, found.solution.priorities) {
-        Ok(normal) => match tell_by(
-            alloc,
-            &texts.system,
-            &found.solution.game,
-            normal,
-            evidence,
-            limit,
-        ) {
-            Ok(told) => Ok(told),
-            Err(Memory) => Err(MuError::Memory),
-        },
-        Err(error) => Err(MuError::Normal(error)),
-    }
+    let SolvedGame { form, game, .. } = &found.solution;
+    let system = &found.texts.system;
+    Ok(tell_by(alloc, system, form, game, evidence, limit)?)
 }
 
 /// What is told of the play by evidence, in the game of a system and a normal form.
 fn tell_by(
     alloc: Global,
     system: &Lts,
+    form: &Normal,
     game: &Game,
-    normal: Normal,
     evidence: &Evidence,
     limit: u32,
-) -> Result<Told, Memory>
-    requires game { game.now ≡ arena system.now.system (normal_nodes normal) }
+) -> Result<PlayVisits, Memory>
+    requires game { game.now ≡ arena system.now.system (normal_nodes form.now) }
     requires same { evidence.now.game ≡ game.now }
     requires good { IsGood game.now evidence.now.evidence }
-    requires root { IsTrue (has_entry evidence.now.evidence (root_of system.now.system (normal_nodes normal))) }
-    ensures { IfOk result (IsToldBy system.now.system (normal_nodes normal) game.now evidence.now.evidence limit) }
+    requires root { IsTrue (has_entry evidence.now.evidence (root_of system.now.system (normal_nodes form.now))) }
+    ensures { IfOk result (IsToldBy system.now.system (normal_nodes form.now) game.now evidence.now.evidence limit) }
 {
-    let root = root_vertex(system, &normal, game);
+    let root = root_vertex(system, form, game);
     let most = most_visits(limit);
     let visits = telling(alloc, game, evidence, root, most)?;
     let heads = heads(alloc, &visits)?;
-    let count = told_within(&normal, &visits, &heads, limit);
-    let modalities = modality_texts(alloc, &normal)?;
-    Ok(Told {
-        normal,
+    let count = told_within(form, &visits, &heads, limit);
+    let modalities = modality_texts(alloc, form)?;
+    Ok(PlayVisits {
         modalities,
         most,
         visits,
@@ -223,11 +198,11 @@ fn most_visits(limit: u32) -> usize
 }
 
 /// Writes what is told.
-fn put_reasons<W: Sink>(found: &Findings, told: &Told, out: &mut W) -> Result<(), WriteFault>
+fn put_reasons<W: Sink>(found: &Findings, told: &PlayVisits, out: &mut W) -> Result<(), WriteFault>
     requires found { AreFindings found.now }
     requires told { (limit : ℕ) × AreToldOf found.now limit told.now }
     ensures { let l = system_of found.now in Wrote (W.taken out.old) (W.taken out.new) result
-        (reasons (formula_found found.now) (slice_index_or found.now.marks.items l.initial false) l (normal_nodes told.now.normal)
+        (reasons (formula_found found.now) (slice_index_or found.now.marks.items l.initial false) l (normal_nodes found.now.solution.form)
         told.now.most told.now.visits.items told.now.heads.items told.now.count) }
 {
     write_formula_line(&found.texts.formula, out)?;
@@ -236,7 +211,7 @@ fn put_reasons<W: Sink>(found: &Findings, told: &Told, out: &mut W) -> Result<()
 }
 
 /// Writes whether the initial state satisfies the formula, and whether one run shows it or several do.
-fn put_verdict<W: Sink>(found: &Findings, told: &Told, out: &mut W) -> Result<(), WriteFault>
+fn put_verdict<W: Sink>(found: &Findings, told: &PlayVisits, out: &mut W) -> Result<(), WriteFault>
     requires { AreFindings found.now }
     ensures { Wrote (W.taken out.old) (W.taken out.new) result
         (verdict_text (slice_index_or found.now.marks.items (system_of found.now).initial false) (has_branch_of told.now.visits.items) ++ line_end) }
@@ -252,14 +227,14 @@ fn put_verdict<W: Sink>(found: &Findings, told: &Told, out: &mut W) -> Result<()
 }
 
 /// Writes the lines of the visits.
-fn put_story<W: Sink>(found: &Findings, told: &Told, out: &mut W) -> Result<(), WriteFault>
+fn put_story<W: Sink>(found: &Findings, told: &PlayVisits, out: &mut W) -> Result<(), WriteFault>
     requires { (limit : ℕ) × AreToldOf found.now limit told.now }
     ensures { Wrote (W.taken out.old) (W.taken out.new) result
-        (story_text (system_of found.now) (normal_nodes told.now.normal) told.now.most told.now.visits.items told.now.heads.items told.now.count) }
+        (story_text (system_of found.now) (normal_nodes found.now.solution.form) told.now.most told.now.visits.items told.now.heads.items told.now.count) }
 {
     let story = Story {
         system: &found.texts.system,
-        normal: &told.normal,
+        normal: &found.solution.form,
         modalities: &told.modalities,
         visits: &told.visits,
         heads: &told.heads,

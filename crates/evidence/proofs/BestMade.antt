@@ -7,15 +7,15 @@ use Rattle.std.proofs.lemmas.List.FromFn.{length-map-range_with_len, get_or-map-
 use Rattle.game.specs.declared.player.Player.{Player}
 use Rattle.game.specs.declared.player.Player.TheVariants.{Even, Odd}
 use Rattle.game.specs.Game.{Game, IsGame, IsVertex, Vertex, dual, vertex}
-use Rattle.progress.specs.Measure.{Counts, IsAtMost, IsBelow, IsProg, Measure, Top}
-use Rattle.progress.specs.Progress.{IsLeastTable, value_at}
-use Rattle.progress.specs.Laws.{IsLeastSuccessor}
-use Rattle.progress.proofs.Bests.{vertex_here}
+use Rattle.measures.specs.Measure.{Counts, IsAtMost, IsBelow, IsProg, Measure, Top}
+use Rattle.measures.specs.Progress.{IsLeastTable, value_at}
+use Rattle.measures.specs.Laws.{IsLeastSuccessor}
+use Rattle.measures.proofs.Bests.{vertex_here}
 use Rattle.game.proofs.Duals.{dual_game}
 use Rattle.laws.proofs.LeastExists.{least_exists, least_unique}
-use Rattle.progress.proofs.Lifts.{value_measure}
-use Rattle.progress.proofs.Lists.{all_contained, all_got, best_of}
-use Rattle.progress.proofs.Measures.{at_most_itself, at_most_or_below, at_most_trans, below_at_most, not_below, prog, prog_more}
+use Rattle.measures.proofs.Lifts.{value_measure}
+use Rattle.measures.proofs.Lists.{all_contained, all_got, best_of}
+use Rattle.measures.proofs.Measures.{at_most_itself, at_most_or_below, at_most_trans, below_at_most, not_below, prog, prog_more}
 use Rattle.evidence.specs.Best.{IsBestMove, IsEvenOf}
 use Rattle.evidence.specs.Evidence.{Entry, Evidence, entry_at}
 use Rattle.evidence.specs.Laws.{BestExists, BestIsOne}

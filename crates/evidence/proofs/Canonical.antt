@@ -12,9 +12,9 @@ use Rattle.text.specs.Text.{IsNumeral, pieces_of, with_first}
 use Rattle.text.proofs.Plain.{plain, plain_no_end, numeral, number_plain}
 use Rattle.game.specs.Game.{Game, IsGame, count, dual}
 use Rattle.game.proofs.Duals.{dual_game}
-use Rattle.progress.specs.Measure.{IsMeasure, components}
-use Rattle.progress.proofs.Lifts.{value_measure}
-use Rattle.progress.specs.MeasureText.{counts_text}
+use Rattle.measures.specs.Measure.{IsMeasure, components}
+use Rattle.measures.proofs.Lifts.{value_measure}
+use Rattle.measures.specs.MeasureText.{counts_text}
 use Rattle.evidence.specs.Canon.{entry_line, entry_lines, evidence_text, header, move_text}
 use Rattle.evidence.specs.Evidence.{Entry, Evidence, IsEvidence, counted}
 use Rattle.evidence.specs.Best.{IsEvenOf}

@@ -10,11 +10,11 @@ use Rattle.game.specs.declared.player.Player.{Player}
 use Rattle.game.specs.declared.player.Player.TheVariants.{Even, Odd}
 use Rattle.game.specs.Game.{Game, IsGame, IsVertex, Vertex, greatest, opponent, vertex}
 use Rattle.game.specs.Wins.{IsOf}
-use Rattle.progress.specs.Measure.{Counts, IsBelow, odd_down}
-use Rattle.progress.proofs.Components.{kept_is}
-use Rattle.progress.proofs.Bests.{vertex_tells}
-use Rattle.progress.proofs.Lists.{all_got, contains_first, contains_none, contains_cases}
-use Rattle.progress.proofs.Measures.{below_at_most}
+use Rattle.measures.specs.Measure.{Counts, IsBelow, odd_down}
+use Rattle.measures.proofs.Components.{kept_is}
+use Rattle.measures.proofs.Bests.{vertex_tells}
+use Rattle.measures.proofs.Lists.{all_got, contains_first, contains_none, contains_cases}
+use Rattle.measures.proofs.Measures.{below_at_most}
 use Rattle.evidence.specs.Checking.{IsAlong, IsFaultAt, IsLeastFault}
 use Rattle.evidence.specs.Evidence.{Descends, Entry, Evidence, GoesTo, LacksFault, IsFreeAt, IsGood, counted, cut, entry_at, even_down}
 use Rattle.evidence.specs.declared.verdict.Fault.{Fault}

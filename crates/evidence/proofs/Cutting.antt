@@ -7,8 +7,8 @@ use Rattle.game.specs.declared.player.Player.{Player}
 use Rattle.game.specs.declared.player.Player.TheVariants.{Even, Odd}
 use Rattle.game.specs.Game.{Game, Vertex, greatest, opponent, vertex}
 use Rattle.game.specs.Wins.{IsOf}
-use Rattle.progress.specs.Measure.{Counts, IsAtMost, IsBelow, odd_down}
-use Rattle.progress.proofs.NotBoth.{path_on}
+use Rattle.measures.specs.Measure.{Counts, IsAtMost, IsBelow, odd_down}
+use Rattle.measures.proofs.NotBoth.{path_on}
 use Rattle.evidence.specs.Evidence.{Descends, Entry, Evidence, GoesTo, IsEvidence, LacksFault, IsGood, counted, entry_at, even_down, has}
 use Rattle.evidence.specs.Witness.{Goes, IsClosedFor, cut_from, cut_to}
 use Rattle.evidence.specs.Laws.{ReachedIsClosed}

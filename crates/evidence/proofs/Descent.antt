@@ -4,10 +4,10 @@ use Rattle.game.specs.declared.player.Player.{Player}
 use Rattle.game.specs.declared.player.Player.TheVariants.{Even, Odd}
 use Rattle.game.specs.Game.{Game, dual, opponent}
 use Rattle.game.specs.Wins.{IsOf}
-use Rattle.progress.specs.Measure.{Counts, Reaches, is_odd}
-use Rattle.progress.proofs.Cycles.{odd_or_even}
-use Rattle.progress.proofs.Order.{Over, over_fewer, over_from, over_to}
-use Rattle.progress.proofs.Measures.{over_reaches, reaches_over}
+use Rattle.measures.specs.Measure.{Counts, Reaches, is_odd}
+use Rattle.measures.proofs.Cycles.{odd_or_even}
+use Rattle.measures.proofs.Order.{Over, over_fewer, over_from, over_to}
+use Rattle.measures.proofs.Measures.{over_reaches, reaches_over}
 use Rattle.evidence.specs.Evidence.{Descends, counted}
 use Rattle.evidence.specs.Laws.{DescentIsReaching}
 use Rattle.evidence.proofs.Shifted.{kept_dual}

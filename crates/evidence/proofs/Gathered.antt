@@ -8,7 +8,7 @@ use Rattle.std.proofs.lemmas.Bool.Decides.{eqb_tells}
 use Rattle.std.proofs.lemmas.List.{get_or-set_other, get_or-set_same, length-append, length-set}
 use Rattle.std.proofs.lemmas.List.Elements.{Contains-append_left, Contains-get_or, Contains-push, Contains-push_cases}
 use Rattle.std.proofs.lemmas.List.Quantifiers.{all_pairs_push}
-use Rattle.progress.proofs.Lists.{count_no, count_yes}
+use Rattle.measures.proofs.Lists.{count_no, count_yes}
 use Rattle.text.specs.Lines.{IfKnown, TakesPiece}
 use Rattle.text.specs.Text.{pieces_of}
 use Rattle.evidence.specs.Evidence.{Entry}

@@ -7,10 +7,10 @@ use Rattle.game.specs.declared.player.Player.{Player}
 use Rattle.game.specs.declared.player.Player.TheVariants.{Even, Odd}
 use Rattle.game.specs.Game.{Game, Vertex, dual, vertex}
 use Rattle.game.specs.Wins.{Edge, Wins, WinsBy, greatest_met, priority_at}
-use Rattle.progress.specs.Measure.{Counts, Measure, Reaches, Top}
-use Rattle.progress.proofs.Cycles.{no_odd_cycle, odd_or_even, priority}
+use Rattle.measures.specs.Measure.{Counts, Measure, Reaches, Top}
+use Rattle.measures.proofs.Cycles.{no_odd_cycle, odd_or_even, priority}
 use Rattle.game.proofs.Duals.{long_dual}
-use Rattle.progress.proofs.Dual.{dual_wins}
+use Rattle.measures.proofs.Dual.{dual_wins}
 use Rattle.evidence.specs.Evidence.{Entry, Evidence, GoesTo, IsGood, entry_at, has}
 use Rattle.evidence.specs.Laws.{GoodEvidenceWins}
 use Rattle.evidence.specs.declared.verdict.Fault.TheVariants.{Leaves, Move, Rank}

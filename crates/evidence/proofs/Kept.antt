@@ -8,9 +8,9 @@ use Rattle.std.proofs.lemmas.Bool.{eqb-true}
 use Rattle.systems.specs.System.{Arrow, IsArrow, System, arrow_cmp}
 use Rattle.lts.proofs.Storing.{set_is, strict_set}
 use Rattle.calculus.specs.Holds.{holds}
-use Rattle.forms.specs.Tree.{Shape, ConstantNode, JunctionNode, ModalityNode, FixpointNode, VariableNode}
+use Rattle.calculus.specs.NormalTree.{Shape, ConstantNode, JunctionNode, ModalityNode, FixpointNode, VariableNode}
 use Rattle.game.specs.Arena.{place}
-use Rattle.progress.proofs.Lists.{contains_cases, contains_first, contains_later, contains_none}
+use Rattle.measures.proofs.Lists.{contains_cases, contains_first, contains_later, contains_none}
 use Rattle.laws.proofs.Flags.{both, cases}
 use Rattle.laws.proofs.Lists.{any_gives, gives_any}
 use Rattle.evidence.specs.Witness.{HasArrows, KeepsStep}

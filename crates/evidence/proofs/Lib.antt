@@ -29,3 +29,5 @@ pub mod Shortened
 pub mod Lifted
 pub mod Shortening
 pub mod Taking
+pub mod Marked
+mod Pairs

@@ -6,10 +6,10 @@ use Rattle.std.proofs.lemmas.List.{get_or-set_other, get_or-set_same, get_or_pas
 use Rattle.std.proofs.lemmas.Slice.Zip.{AllZip-long}
 use Rattle.game.specs.declared.player.Player.TheVariants.{Even}
 use Rattle.game.specs.Game.{Game, count, greatest}
-use Rattle.progress.specs.Measure.{Counts, IsMeasure, Measure, Top, components}
-use Rattle.progress.specs.Progress.{IsLeastTable, value_at}
-use Rattle.progress.proofs.Components.{odd_down_long}
-use Rattle.progress.proofs.Lifts.{value_measure}
+use Rattle.measures.specs.Measure.{Counts, IsMeasure, Measure, Top, components}
+use Rattle.measures.specs.Progress.{IsLeastTable, value_at}
+use Rattle.measures.proofs.Components.{odd_down_long}
+use Rattle.measures.proofs.Lifts.{value_measure}
 use Rattle.evidence.specs.Best.{IsEvenOf}
 use Rattle.evidence.specs.Checking.{IsMoveAt}
 use Rattle.evidence.specs.Evidence.{Entry}

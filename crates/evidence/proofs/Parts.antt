@@ -9,15 +9,15 @@ use Rattle.std.proofs.lemmas.Option.{slice_get_within}
 use Rattle.systems.specs.System.{Arrow, System}
 use Rattle.calculus.specs.Tree.{Action}
 use Rattle.calculus.specs.Holds.{holds}
-use Rattle.forms.specs.Tree.{Shape, ConstantNode, JunctionNode, ModalityNode, FixpointNode, VariableNode}
-use Rattle.forms.specs.Nodes.{Node}
+use Rattle.calculus.specs.NormalTree.{Shape, ConstantNode, JunctionNode, ModalityNode, FixpointNode, VariableNode}
+use Rattle.calculus.specs.Nodes.{Node}
 use Rattle.game.specs.declared.player.Player.TheVariants.{Even}
 use Rattle.game.specs.Arena.{arena, is_step, or_else, place, rows, successors_of, targets, vertex_of}
 use Rattle.game.specs.Game.{Game, Vertex, greatest, greatest_of, vertex}
 use Rattle.game.specs.Wins.{WinsBy}
 use Rattle.game.proofs.Arenas.{rows_count}
-use Rattle.progress.proofs.Lists.{contains_none, contains_first}
-use Rattle.progress.proofs.NotBoth.{not_both_win}
+use Rattle.measures.proofs.Lists.{contains_none, contains_first}
+use Rattle.measures.proofs.NotBoth.{not_both_win}
 use Rattle.laws.proofs.Decided.{even_wins_formula}
 use Rattle.laws.proofs.Edges.{in_or_else, of_or_else}
 use Rattle.laws.proofs.Lists.{any_gives, filter_gives, gives_any, gives_filter, in_map, of_map, only_in}

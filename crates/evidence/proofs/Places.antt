@@ -2,13 +2,13 @@
 use Rattle.std.proofs.Common.{◌≡◌, ℕ, zero, suc, ◌+◌, ◌*◌, ◌<◌, ◌≤◌, List, [], ◌∷◌, ◌++◌, length, take, drop, refl, sym, ap, ap₂, ◌∙◌, arith, slice_index_or}
 use Rattle.std.proofs.Common.{slice_set, append_assoc, length-take-le, length-drop, replicate, Option, None}
 use Rattle.std.proofs.Math.Seq.{take-add, take-append_seam, drop-append_seam}
-use Rattle.progress.proofs.Stored.{row_fits}
+use Rattle.measures.proofs.Stored.{row_fits}
 use Rattle.evidence.specs.Evidence.{Entry}
 use Rattle.evidence.specs.View.{Entries, entries_of, entry_of}
-use Rattle.evidence.specs.declared.entries.Place.{Place}
-use Rattle.evidence.specs.declared.entries.Place.TheVariants.{Outside}
+use Rattle.evidence.specs.declared.entries.EntryPlace.{EntryPlace}
+use Rattle.evidence.specs.declared.entries.EntryPlace.TheVariants.{Outside}
 
-pub places_long : (w : ℕ) (places : List Place) (cs : List ℕ) → length (entries_of w places cs) ≡ length places
+pub places_long : (w : ℕ) (places : List EntryPlace) (cs : List ℕ) → length (entries_of w places cs) ≡ length places
 places_long w [] cs = refl
 places_long w (p ∷ places) cs = ap suc (places_long w places (drop w cs))
 
@@ -21,7 +21,7 @@ drop_more (suc n) m [] = let e : suc n + m ≡ suc (n + m) = omega arith in ap (
     none (suc k) = refl
 drop_more (suc n) m (x ∷ xs) = let e : suc n + m ≡ suc (n + m) = omega arith in ap (λ k. drop k (x ∷ xs)) e ∙ drop_more n m xs
 
-places_at : (w : ℕ) (places : List Place) (cs : List ℕ) (v : ℕ) (p d : Place) → v < length places → p ≡ slice_index_or places v d
+places_at : (w : ℕ) (places : List EntryPlace) (cs : List ℕ) (v : ℕ) (p d : EntryPlace) → v < length places → p ≡ slice_index_or places v d
     → slice_index_or (entries_of w places cs) v None ≡ entry_of p (take w (drop (v * w) cs))
 places_at w [] cs v p d h e = absurd (omega arith)
 places_at w (q ∷ places) cs zero p d h e = let z : 0 * w ≡ 0 = omega arith in ap₂ entry_of (sym e) (sym (ap (λ k. take w (drop k cs)) z))
@@ -29,7 +29,7 @@ places_at w (q ∷ places) cs (suc v) p d h e =
     let m : w + v * w ≡ suc v * w = omega arith in
     places_at w places (drop w cs) v p d (omega arith) e ∙ ap (λ xs. entry_of p (take w xs)) (sym (drop_more w (v * w) cs) ∙ ap (λ k. drop k cs) m)
 
-places_set : (w : ℕ) (places : List Place) (cs : List ℕ) (v : ℕ) (p : Place) (c : List ℕ) → v < length places → length c ≡ w → length cs ≡ length places * w
+places_set : (w : ℕ) (places : List EntryPlace) (cs : List ℕ) (v : ℕ) (p : EntryPlace) (c : List ℕ) → v < length places → length c ≡ w → length cs ≡ length places * w
     → entries_of w (slice_set places v p) (take (v * w) cs ++ (c ++ drop (v * w + w) cs)) ≡ slice_set (entries_of w places cs) v (entry_of p c)
 places_set w [] cs v p c h e l = absurd (omega arith)
 places_set w (q ∷ places) cs zero p c h e l =
@@ -58,14 +58,14 @@ pub places_none : (w n : ℕ) (cs : List ℕ) → entries_of w (replicate n Outs
 places_none w zero cs = refl
 places_none w (suc n) cs = ap (λ es. None ∷ es) (places_none w n (drop w cs))
 
-abbrev stored : ℕ → List Place → List ℕ → Entries
+abbrev stored : ℕ → List EntryPlace → List ℕ → Entries
 stored w places cs = record { width = w; entries = entries_of w places cs }
 
-module _ (w : ℕ) (places : List Place) (cs : List ℕ) (now : Entries) (is : stored w places cs ≡ now) where
+module _ (w : ℕ) (places : List EntryPlace) (cs : List ℕ) (now : Entries) (is : stored w places cs ≡ now) where
   pub long_is : length now.entries ≡ length places
   long_is = sym (ap (λ (r : Entries). length r.entries) is) ∙ places_long w places cs
 
-  pub entry_is : (v : ℕ) (p d : Place) (row : List ℕ) → v < length now.entries → p ≡ slice_index_or places v d → row ≡ take w (drop (v * w) cs)
+  pub entry_is : (v : ℕ) (p d : EntryPlace) (row : List ℕ) → v < length now.entries → p ≡ slice_index_or places v d → row ≡ take w (drop (v * w) cs)
       → slice_index_or now.entries v None ≡ entry_of p row
   entry_is v p d row h e r = sym (ap (λ (r : Entries). slice_index_or r.entries v None) is)
       ∙ (places_at w places cs v p d (let l = long_is in omega arith) e ∙ ap (entry_of p) (sym r))
@@ -73,7 +73,7 @@ module _ (w : ℕ) (places : List Place) (cs : List ℕ) (now : Entries) (is : s
   pub row_inside : (v l : ℕ) → v < length now.entries → l ≡ length places * w → v * w + w ≤ l
   row_inside v l h e = row_fits v w (length places) l (let n = long_is in omega arith) e
 
-  pub set_entry : (v : ℕ) (p : Place) (x : Option Entry) (c new : List ℕ) → v < length now.entries → entry_of p c ≡ x → length c ≡ now.width
+  pub set_entry : (v : ℕ) (p : EntryPlace) (x : Option Entry) (c new : List ℕ) → v < length now.entries → entry_of p c ≡ x → length c ≡ now.width
       → length cs ≡ length places * w
       → new ≡ take (v * w) cs ++ (c ++ drop (v * w + w) cs) → stored w (slice_set places v p) new
       ≡ record { width = now.width; entries = slice_set now.entries v x }

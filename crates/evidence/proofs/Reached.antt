@@ -7,8 +7,8 @@ use Rattle.std.proofs.lemmas.Bool.Decides.{eqb_tells}
 use Rattle.std.proofs.lemmas.Option.{slice_get_within}
 use Rattle.systems.specs.Path.{IsPath}
 use Rattle.game.specs.Game.{Game, Vertex, vertex}
-use Rattle.progress.proofs.NotBoth.{path_on}
-use Rattle.progress.proofs.Rests.{rests}
+use Rattle.measures.proofs.NotBoth.{path_on}
+use Rattle.measures.proofs.Rests.{rests}
 use Rattle.laws.proofs.Flags.{and_true, both, either, or_left, or_right, same_true}
 use Rattle.laws.proofs.Lists.{any_gives, gives_any, gives_range}
 use Rattle.evidence.specs.Evidence.{Entry, Evidence, IsEvidence, IsGood, entry_at, has}

@@ -10,7 +10,7 @@ use Rattle.text.specs.Text.{IsNumeral, is_digit, is_numeral, value_of}
 use Rattle.text.specs.Tokens.{capped, cut_at, whole_number, ◌>>=◌}
 use Rattle.text.proofs.Scanning.{bind_some, cut_finds, cut_gives, if_some, whole_gives}
 use Rattle.text.proofs.Spaced.{numeral_digits}
-use Rattle.progress.specs.MeasureText.{AreCounts}
+use Rattle.measures.specs.MeasureText.{AreCounts}
 use Rattle.evidence.specs.declared.limits.TheConstants.{GREATEST_COUNT}
 use Rattle.evidence.specs.Scan.{count_before, counts_in, end_of, fields_of, move_of, number_of, rank_of}
 use Rattle.evidence.specs.Spelling.{IsMoveText, IsShaped, EntryRow}

@@ -4,11 +4,11 @@ use Rattle.std.proofs.Common.{nat_le, if◌then◌else◌, true≢false}
 use Rattle.std.proofs.lemmas.Bool.Decides.{leb_tells}
 use Rattle.std.proofs.lemmas.List.{length-map}
 use Rattle.game.specs.Game.{Game, Vertex, dual, greatest, greatest_of}
-use Rattle.progress.specs.Measure.{components, is_odd, kept, odd_down}
-use Rattle.progress.proofs.Components.{odd_down_long}
-use Rattle.progress.proofs.Cycles.{odd_or_even}
+use Rattle.measures.specs.Measure.{components, is_odd, kept, odd_down}
+use Rattle.measures.proofs.Components.{odd_down_long}
+use Rattle.measures.proofs.Cycles.{odd_or_even}
 use Rattle.game.proofs.Duals.{turned}
-use Rattle.progress.proofs.Lists.{count_no, count_yes}
+use Rattle.measures.proofs.Lists.{count_no, count_yes}
 use Rattle.evidence.specs.Evidence.{even_down}
 
 odd_after : (n : ℕ) → is_odd n ≡ false → is_odd (suc n) ≡ true

@@ -4,7 +4,7 @@ use Rattle.game.specs.declared.player.Player.{Player}
 use Rattle.game.specs.declared.player.Player.TheVariants.{Even, Odd}
 use Rattle.game.specs.Game.{Game}
 use Rattle.game.specs.Wins.{WinsBy}
-use Rattle.progress.proofs.NotBoth.{not_both_win}
+use Rattle.measures.proofs.NotBoth.{not_both_win}
 use Rattle.laws.proofs.OneWins.{one_wins}
 use Rattle.evidence.specs.Evidence.{Evidence, IsEvidence, IsGood, has}
 use Rattle.evidence.specs.Laws.{AllInOne, BestIsYes, NoneInBoth, YesDecides}

@@ -6,13 +6,13 @@ use Rattle.std.specs.List.{list_any, range_with_len}
 use Rattle.std.proofs.lemmas.Option.{slice_get_within}
 use Rattle.systems.specs.System.{Arrow, System}
 use Rattle.calculus.specs.Holds.{holds}
-use Rattle.forms.specs.Tree.{Shape, ConstantNode, JunctionNode, ModalityNode, FixpointNode, VariableNode}
-use Rattle.forms.specs.Nodes.{Node}
+use Rattle.calculus.specs.NormalTree.{Shape, ConstantNode, JunctionNode, ModalityNode, FixpointNode, VariableNode}
+use Rattle.calculus.specs.Nodes.{Node}
 use Rattle.game.specs.declared.player.Player.{Player}
 use Rattle.game.specs.declared.player.Player.TheVariants.{Even, Odd}
 use Rattle.game.specs.Arena.{arena, owner_of, place, vertex_of}
 use Rattle.game.specs.Game.{Vertex}
-use Rattle.progress.proofs.Lists.{contains_cases, contains_first, contains_later, contains_none}
+use Rattle.measures.proofs.Lists.{contains_cases, contains_first, contains_later, contains_none}
 use Rattle.laws.proofs.Flags.{and_true, cases, or_left, or_right, same_true}
 use Rattle.laws.proofs.Lists.{gives_any, gives_range}
 use Rattle.laws.proofs.Vertices.{vertex_is}

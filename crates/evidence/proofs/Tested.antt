@@ -12,7 +12,7 @@ use Rattle.game.specs.declared.player.Player.{Player}
 use Rattle.game.specs.declared.player.Player.TheVariants.{Even, Odd}
 use Rattle.game.specs.Game.{Game, Vertex, opponent, vertex}
 use Rattle.game.specs.Wins.{IsOf}
-use Rattle.progress.proofs.Lists.{contains_first, contains_none}
+use Rattle.measures.proofs.Lists.{contains_first, contains_none}
 use Rattle.laws.proofs.Flags.{and_true, both, either, or_left, or_right, same_true}
 use Rattle.laws.proofs.Lists.{all_gives, any_gives, gives_all, gives_any, only_in}
 use Rattle.evidence.specs.Evidence.{Descends, Entry, Evidence, GoesTo, LacksFault, cut, entry_at, has}

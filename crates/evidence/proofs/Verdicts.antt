@@ -7,8 +7,8 @@ use Rattle.game.specs.declared.player.Player.{Player}
 use Rattle.game.specs.declared.player.Player.TheVariants.{Even, Odd}
 use Rattle.game.specs.Game.{Game, Vertex, opponent, vertex}
 use Rattle.game.specs.Wins.{IsOf}
-use Rattle.progress.proofs.Order.{Over, not_over_itself, over_either, over_trans}
-use Rattle.progress.proofs.Searches.{either_way, find_in}
+use Rattle.measures.proofs.Order.{Over, not_over_itself, over_either, over_trans}
+use Rattle.measures.proofs.Searches.{either_way, find_in}
 use Rattle.evidence.specs.Evidence.{Descends, Entry, Evidence, GoesTo, LacksFault, IsFreeAt, IsGood, entry_at, has}
 use Rattle.evidence.specs.Verdict.{IsBoth, IsFirstFault, IsLeftOut, IsVerdict, number_of}
 use Rattle.evidence.specs.Laws.{OneAnswer, OneVerdict}

@@ -2,7 +2,7 @@
 use Rattle.std.proofs.Common.{◌≡◌, ℕ, suc, ◌+◌, ◌<◌, List, [], ◌∷◌, ◌++◌, Option, Some, None, length, decimal, refl, ap, ap₂, subst, ◌∙◌, append_assoc}
 use Rattle.std.proofs.Common.{slice_index_or, arith}
 use Rattle.text.specs.Pieces.{line_end}
-use Rattle.progress.specs.MeasureText.{counts_text}
+use Rattle.measures.specs.MeasureText.{counts_text}
 use Rattle.text.specs.Wrote.{lines_from}
 use Rattle.evidence.specs.Canon.{entry_line, entry_lines, entry_line_at, entry_line_of, move_text}
 use Rattle.evidence.specs.Evidence.{Entry}

@@ -2,9 +2,9 @@
 use Rattle.std.specs.Prelude.{◌≡◌, ℕ, ◌≤◌, List, length, Option, Some, None}
 use Rattle.game.specs.declared.player.Player.TheVariants.{Even, Odd}
 use Rattle.game.specs.Game.{Game, Vertex, dual, vertex}
-use Rattle.progress.specs.Measure.{Counts, Measure, Top}
-use Rattle.progress.specs.Progress.{IsLeastTable, value_at}
-use Rattle.progress.specs.Laws.{IsLeastSuccessor}
+use Rattle.measures.specs.Measure.{Counts, Measure, Top}
+use Rattle.measures.specs.Progress.{IsLeastTable, value_at}
+use Rattle.measures.specs.Laws.{IsLeastSuccessor}
 use Rattle.evidence.specs.Evidence.{Entry, Evidence, entry_at}
 
 -- At Even's vertices it is the least successor among those with the least prog, and at Odd's there is none.

@@ -3,7 +3,7 @@ use Rattle.std.specs.Prelude.{ℕ, ◌+◌, List, [], ◌∷◌, ◌++◌, Optio
 use Rattle.text.specs.Pieces.{line_end}
 use Rattle.game.specs.declared.player.Player.{Player}
 use Rattle.game.specs.declared.player.Player.TheVariants.{Even, Odd}
-use Rattle.progress.specs.MeasureText.{counts_text}
+use Rattle.measures.specs.MeasureText.{counts_text}
 use Rattle.evidence.specs.Evidence.{Entry, Evidence}
 
 abbrev pub player_text : Player → List ℕ

@@ -6,7 +6,7 @@ use Rattle.game.specs.declared.player.Player.{Player}
 use Rattle.game.specs.declared.player.Player.TheVariants.{Even, Odd}
 use Rattle.game.specs.Game.{Game, Vertex, greatest, opponent, vertex}
 use Rattle.game.specs.Wins.{IsOf}
-use Rattle.progress.specs.Measure.{Counts, IsAtMost, IsBelow, is_odd, odd_down}
+use Rattle.measures.specs.Measure.{Counts, IsAtMost, IsBelow, is_odd, odd_down}
 use Rattle.evidence.specs.declared.verdict.Fault.{Fault}
 use Rattle.evidence.specs.declared.verdict.Fault.TheVariants.{Leaves, Move, Rank}
 

@@ -5,15 +5,15 @@ use Rattle.systems.specs.System.{Arrow, System, IsSystem}
 use Rattle.calculus.specs.Tree.{Formula}
 use Rattle.calculus.specs.Admitted.{IsAdmitted}
 use Rattle.calculus.specs.Meaning.{Satisfies}
-use Rattle.forms.specs.Tree.{normal_form}
-use Rattle.forms.specs.Nodes.{Node}
-use Rattle.forms.specs.declared.limits.TheConstants.{GREATEST_PRIORITY}
+use Rattle.calculus.specs.NormalTree.{normal_form}
+use Rattle.calculus.specs.Nodes.{Node}
+use Rattle.calculus.specs.declared.limits.TheConstants.{GREATEST_PRIORITY}
 use Rattle.game.specs.Arena.{arena, place}
 use Rattle.game.specs.declared.player.Player.TheVariants.{Even, Odd}
 use Rattle.game.specs.Game.{Game, IsGame, dual, greatest}
 use Rattle.game.specs.Wins.{OddWins, Wins, WinsBy}
 use Rattle.game.specs.declared.limits.TheConstants.{MOST_VERTICES}
-use Rattle.progress.specs.Measure.{Counts, Reaches}
+use Rattle.measures.specs.Measure.{Counts, Reaches}
 use Rattle.laws.specs.Admissible.{IsNodes}
 use Rattle.evidence.specs.Canon.{evidence_text}
 use Rattle.evidence.specs.Evidence.{Descends, Entry, Evidence, IsEvidence, IsGood, entry_at, has}

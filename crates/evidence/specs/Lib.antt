@@ -13,3 +13,5 @@ pub mod Laws
 pub mod View
 pub mod Draft
 pub mod Checking
+pub mod Full
+pub mod Pair

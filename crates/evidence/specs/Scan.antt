@@ -5,7 +5,7 @@ use Rattle.text.specs.Text.{is_numeral, value_of}
 use Rattle.text.specs.Tokens.{capped, cut_at, ◌>>=◌}
 use Rattle.game.specs.declared.player.Player.{Player}
 use Rattle.evidence.specs.Canon.{header}
-use Rattle.evidence.specs.declared.scan.Spelled.{Spelled}
+use Rattle.evidence.specs.declared.scan.EntryLine.{EntryLine}
 use Rattle.evidence.specs.declared.limits.TheConstants.{GREATEST_COUNT}
 
 -- The line announces no player's evidence.
@@ -58,7 +58,7 @@ rank_of zero bytes = if bytes_eq bytes (codes "()") then Some [] else None
 rank_of (suc more) bytes = if bytes_eq (take 1 bytes) (codes "(") then counts_in (suc more) (drop 1 bytes) else None
 
 -- The line's fields were found, and they are these.
-pub record AreFields (line : List ℕ) (f : Spelled) : Type 0 where
+pub record AreFields (line : List ℕ) (f : EntryLine) : Type 0 where
   pub vertex : ℕ
   pub move : Option ℕ
   pub found : fields_of line ≡ Some (vertex, move, f.rank.now)

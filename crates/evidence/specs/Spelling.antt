@@ -3,7 +3,7 @@ use Rattle.std.specs.Prelude.{◌≡◌, ◌≢◌, ◌↔◌, ℕ, ◌<◌, ◌
 use Rattle.std.specs.List.{AllByRecursion, AllZip}
 use Rattle.text.specs.Text.{IsNumeral, pieces_of}
 use Rattle.game.specs.Game.{Game}
-use Rattle.progress.specs.MeasureText.{AreCounts}
+use Rattle.measures.specs.MeasureText.{AreCounts}
 use Rattle.evidence.specs.Canon.{header}
 use Rattle.evidence.specs.Evidence.{Entry, Evidence, counted}
 use Rattle.evidence.specs.declared.limits.TheConstants.{GREATEST_COUNT}

@@ -2,16 +2,16 @@
 use Rattle.std.specs.Prelude.{ℕ, List, [], ◌∷◌, drop, take, Option, Some, None}
 use Rattle.game.specs.Game.{Game}
 use Rattle.evidence.specs.Evidence.{Entry, Evidence}
-use Rattle.evidence.specs.declared.entries.Place.{Place}
-use Rattle.evidence.specs.declared.entries.Place.TheVariants.{Outside, Stays, Goes}
+use Rattle.evidence.specs.declared.entries.EntryPlace.{EntryPlace}
+use Rattle.evidence.specs.declared.entries.EntryPlace.TheVariants.{Outside, Stays, Goes}
 
-abbrev pub entry_of : Place → List ℕ → Option Entry
+abbrev pub entry_of : EntryPlace → List ℕ → Option Entry
 entry_of Outside rank = None
 entry_of Stays rank = Some (record { move = None; rank = rank })
 entry_of (Goes t) rank = Some (record { move = Some t; rank = rank })
 
 -- a place and so many counts for each vertex
-abbrev pub entries_of : ℕ → List Place → List ℕ → List (Option Entry)
+abbrev pub entries_of : ℕ → List EntryPlace → List ℕ → List (Option Entry)
 entries_of width [] counts = []
 entries_of width (place ∷ places) counts = entry_of place (take width counts) ∷ entries_of width places (drop width counts)
 

@@ -1,10 +1,11 @@
 // What the vertices of a set have, in two lists.
 
-ghost use Rattle.std.specs.Prelude.{◌≡◌, ◌<◌, ◌≤◌, ◌+◌, ◌*◌, ◌++◌, ℕ, List, None, Some, drop, length, replicate, slice_index_or, slice_set, take, IfOk};
+ghost use Rattle.std.specs.Prelude.{◌≡◌, ◌<◌, ◌≤◌, ◌*◌, ℕ, List, None, Some, length, replicate, slice_index_or, slice_set, IfOk};
 ghost use Rattle.std.specs.Prelude.{MatchOption};
 ghost use Rattle.evidence.specs.View.{entry_of};
 
 use game::limits::MOST_VERTICES;
+use measures::rows::{row, write_row};
 use std::alloc::{AllocError, Global};
 use std::marker::Model;
 
@@ -13,7 +14,7 @@ pub(crate) const MOST_COUNTS: usize = 17;
 
 // What a vertex has, its rank aside.
 #[derive(Clone, Copy)]
-enum Place {
+enum EntryPlace {
     Outside,
     Stays,
     Goes(u32),
@@ -30,7 +31,7 @@ pub struct EntryView<'a> {
 #[derive(Drop)]
 pub(crate) struct Entries {
     width: usize,
-    places: Vec<Place>,
+    places: Vec<EntryPlace>,
     counts: Vec<u32>,
 }
 
@@ -54,7 +55,7 @@ impl Entries {
     {
         Ok(Entries {
             width,
-            places: vec![in alloc; Place::Outside; length]?,
+            places: vec![in alloc; EntryPlace::Outside; length]?,
             counts: vec![in alloc; 0; length * width]?,
         })
     }
@@ -74,9 +75,9 @@ impl Entries {
     {
         let rank = row(self.counts.as_slice(), self.width, v);
         match self.places[v] {
-            Place::Outside => None,
-            Place::Stays => Some(EntryView { next: None, rank }),
-            Place::Goes(next) => Some(EntryView {
+            EntryPlace::Outside => None,
+            EntryPlace::Stays => Some(EntryView { next: None, rank }),
+            EntryPlace::Goes(next) => Some(EntryView {
                 next: Some(next),
                 rank,
             }),
@@ -94,28 +95,11 @@ impl Entries {
     }
 }
 
-fn place_of(next: Option<u32>) -> Place
+fn place_of(next: Option<u32>) -> EntryPlace
     ensures { (rank : List ℕ) → entry_of result rank ≡ Some record { move = next; rank = rank } }
 {
     match next {
-        Some(next) => Place::Goes(next),
-        None => Place::Stays,
+        Some(next) => EntryPlace::Goes(next),
+        None => EntryPlace::Stays,
     }
-}
-
-// So many of the numbers, after as many for each place before.
-fn row(numbers: &[u32], width: usize, place: usize) -> &[u32]
-    requires { place * width + width ≤ length numbers.now }
-    ensures { result.now ≡ take width (drop (place * width) numbers.now) }
-{
-    &numbers[place * width..place * width + width]
-}
-
-// Puts these in their place.
-fn write_row(numbers: &mut [u32], width: usize, place: usize, row: &[u32])
-    requires inside { place * width + width ≤ length numbers.old }
-    requires whole { length row.now ≡ width }
-    ensures { numbers.new ≡ take (place * width) numbers.old ++ (row.now ++ drop (place * width + width) numbers.old) }
-{
-    numbers[place * width..place * width + width].copy_from_slice(row);
 }

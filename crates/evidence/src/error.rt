@@ -38,8 +38,7 @@ impl From<Memory> for EvidenceError {
 
     ghost from_gives = { λ _ e. e ≡ errors.Memory };
 
-    fn from(error: Memory) -> Self {
-        let Memory = error;
+    fn from(_: Memory) -> Self {
         EvidenceError::Memory
     }
 }

@@ -59,6 +59,7 @@ impl Evidence {
     pub fn known(&self)
         ensures { IsEvidence self.now.game self.now.evidence }
     {
+        // For the proof: reading a field makes the invariant known.
         let _ = &self.entries;
     }
 

@@ -10,7 +10,7 @@ ghost use Rattle.evidence.specs.Evidence.{IsGood, has};
 use crate::entries::Entries;
 use crate::error::EvidenceError;
 use crate::evidence::Evidence;
-use forms::limits::GREATEST_PRIORITY;
+use calculus::limits::GREATEST_PRIORITY;
 use game::dual::{dual, greatest_priority};
 use game::graph::Game;
 use game::player::Player;

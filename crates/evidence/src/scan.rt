@@ -25,7 +25,7 @@ pub(crate) fn player_of(line: &[u8]) -> Option<Player>
 
 /// What a line says, the counts of its rank aside. A number that is too great for its type is read as the greatest one.
 #[derive(Clone, Copy)]
-pub(crate) struct Spelled<'a> {
+pub(crate) struct EntryLine<'a> {
     pub vertex: u32,
     pub next: Option<u32>,
     pub rank: &'a [u8],
@@ -43,14 +43,14 @@ fn next_of(bytes: &[u8]) -> Option<Option<u32>>
 }
 
 /// The fields of a line, if it has three that may be a vertex, a move and a rank.
-pub(crate) fn fields(line: &[u8]) -> Option<Spelled<'_>>
+pub(crate) fn fields(line: &[u8]) -> Option<EntryLine<'_>>
     ensures { MatchOption result (at.fields_of line.now ≡ None) (AreFields line.now) }
 {
     let (vertex, rest) = cut_at(line, b' ')?;
     let (next, rank) = cut_at(rest, b' ')?;
     let vertex = whole_number(vertex)?;
     let next = next_of(next)?;
-    Some(Spelled { vertex, next, rank })
+    Some(EntryLine { vertex, next, rank })
 }
 
 // The count before this byte, and what follows the byte.

@@ -18,3 +18,6 @@ pub mod Beginnings
 pub mod Signs
 pub mod Placing
 pub mod OneOrOther
+mod Firsts
+mod Noting
+mod Scanning

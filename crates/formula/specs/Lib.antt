@@ -4,3 +4,6 @@ pub mod Refused
 pub mod Cutting
 pub mod Laws
 pub mod Checked
+pub mod Absent
+pub mod Strange
+pub mod Noted

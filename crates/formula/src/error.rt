@@ -50,8 +50,7 @@ pub enum FormulaError {
 impl<T: Drop> From<AllocFailed<T>> for FormulaError {
     ghost from_gives = { λ _ e. e ≡ FormulaError.Memory };
 
-    fn from(error: AllocFailed<T>) -> Self {
-        let _ = error;
+    fn from(_: AllocFailed<T>) -> Self {
         FormulaError::Memory
     }
 }
@@ -59,8 +58,7 @@ impl<T: Drop> From<AllocFailed<T>> for FormulaError {
 impl From<Memory> for FormulaError {
     ghost from_gives = { λ _ e. e ≡ FormulaError.Memory };
 
-    fn from(error: Memory) -> Self {
-        let _ = error;
+    fn from(_: Memory) -> Self {
         FormulaError::Memory
     }
 }

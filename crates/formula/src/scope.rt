@@ -108,7 +108,7 @@ pub fn variables(
     }
 }
 
-/// The same of two formulas with a sign between them.
+/// The place after two formulas with a sign between them, or their first variable that may not stand where it does.
 #[cycle(variables)]
 fn variables_of_both(
     left: &WrittenState,

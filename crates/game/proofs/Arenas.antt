@@ -7,7 +7,7 @@ use Rattle.game.proofs.Common.{IsShape, IsNode, IsForm, System, Vertex, IsVertex
 use Rattle.game.proofs.Common.{vertex_of, rows, arena, Even}
 use Rattle.std.proofs.lemmas.List.FromFn.{length-range_with_len}
 use Rattle.std.proofs.Math.Nat.{mul-le-mul_left, mul-le-mul_right}
-use Rattle.forms.specs.declared.node as declared
+use Rattle.calculus.specs.declared.node as declared
 use Rattle.std.specs.Prelude.{max}
 use Rattle.game.specs.Game.{greatest, greatest_of}
 use Rattle.game.proofs.Rows.{all_append}

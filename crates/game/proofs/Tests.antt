@@ -1,14 +1,14 @@
 -- What the test of a finished game says.
 use Rattle.game.proofs.Common.{◌≡◌, ◌==◌, ◌&&◌, ◌+◌, ◌≤◌, ◌<◌, ℕ, Bool, true, false, List, [], ◌∷◌, length, ap, sym, ◌∙◌, refl, arith, nat_le, nat_lt}
 use Rattle.game.proofs.Common.{not, AllByRecursion, list_all, ltb-true, leb-true, lt-ltb, le-leb, and_parts, and_from, ne_eqb, eqb-false, length-map, Vertex}
-use Rattle.game.proofs.Common.{IsVertex, IsAscending, rises, vertex_of_row, vertices_of, Row}
+use Rattle.game.proofs.Common.{IsVertex, IsAscending, rises, vertex_of_row, vertices_of, VertexRow}
 use Rattle.std.proofs.lemmas.List.Folds.{list_all-map}
 
 -- what the test of one vertex says
 abbrev pub is_vertex : ℕ → Vertex → Bool
 is_vertex limit v = nat_lt v.priority 33 && not (length v.successors == 0) && rises limit 0 v.successors
 
-abbrev pub is_fit : ℕ → List ℕ → Row → Bool
+abbrev pub is_fit : ℕ → List ℕ → VertexRow → Bool
 is_fit limit successors row = is_vertex limit (vertex_of_row successors row)
 
 -- the first is at least this
@@ -78,11 +78,11 @@ vertices_to n [] h = refl
 vertices_to n (v ∷ vs) h = and_from (is_vertex n v) (list_all (is_vertex n) vs) (vertex_to n v h.0) (vertices_to n vs h.1)
 
 -- The test of the rows is that of their vertices.
-pub rows_test : (n : ℕ) (successors : List ℕ) (rows : List Row) → list_all (is_fit n successors) rows ≡ list_all (is_vertex n) (vertices_of rows successors)
+pub rows_test : (n : ℕ) (successors : List ℕ) (rows : List VertexRow) → list_all (is_fit n successors) rows ≡ list_all (is_vertex n) (vertices_of rows successors)
 rows_test n successors rows = sym (list_all-map (is_vertex n) (vertex_of_row successors) rows)
 
 -- The test of the rows, where the vertices are told by their value.
-pub tested : (n : ℕ) (successors : List ℕ) (rows : List Row) (vs : List Vertex) (b : Bool) → n ≡ length rows → vertices_of rows successors ≡ vs
+pub tested : (n : ℕ) (successors : List ℕ) (rows : List VertexRow) (vs : List Vertex) (b : Bool) → n ≡ length rows → vertices_of rows successors ≡ vs
     → list_all (is_fit n successors) rows ≡ b → list_all (is_vertex (length vs)) vs ≡ b
 tested n successors rows vs b count same h =
     let size : length vs ≡ n = ap length (sym same) ∙ (length-map rows (vertex_of_row successors) ∙ sym count) in

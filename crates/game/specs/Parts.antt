@@ -2,7 +2,7 @@
 use Rattle.std.specs.Prelude.{ℕ, ◌*◌, List, [], ◌∷◌, take, drop}
 use Rattle.std.specs.List.{range_with_len}
 use Rattle.systems.specs.System.{System}
-use Rattle.forms.specs.Nodes.{Node}
+use Rattle.calculus.specs.Nodes.{Node}
 use Rattle.game.specs.declared.player.Player.TheVariants.{Even}
 use Rattle.game.specs.Game.{Vertex}
 use Rattle.game.specs.Arena.{rows}

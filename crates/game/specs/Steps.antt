@@ -7,8 +7,8 @@ use Rattle.systems.specs.Numbered.{Numbered, label_at, arrow_of, arrows_from, Is
 use Rattle.systems.specs.declared.system.Transition.{Transition}
 use Rattle.calculus.specs.Tree.{Action}
 use Rattle.calculus.specs.Holds.{holds}
-use Rattle.forms.specs.Tree.{Shape, ConstantNode, JunctionNode, ModalityNode, FixpointNode, VariableNode}
-use Rattle.forms.specs.Nodes.{Node}
+use Rattle.calculus.specs.NormalTree.{Shape, ConstantNode, JunctionNode, ModalityNode, FixpointNode, VariableNode}
+use Rattle.calculus.specs.Nodes.{Node}
 use Rattle.game.specs.Game.{Vertex}
 use Rattle.game.specs.Arena.{place, or_else, sink, owner_of}
 

@@ -2,10 +2,10 @@
 
 ghost use Rattle.std.specs.Prelude.{◌≡◌, ◌+◌, ◌-◌, ◌*◌, ◌<◌, ◌≤◌, ◌++◌, ◌∷◌, [], false, length, map, slice_index_or, IfOk, OnOk, IfErr};
 ghost use Rattle.std.specs.List.{AllByRecursion, flat_map, range_with_len};
-ghost use Rattle.forms.specs.Form.{IsNode};
-ghost use Rattle.forms.specs.View.{node_of};
-ghost use Rattle.forms.specs.Normal.{normal_nodes};
-ghost use Rattle.forms.specs.Taken.{AreSets, is_in};
+ghost use Rattle.calculus.specs.Form.{IsNode};
+ghost use Rattle.calculus.specs.NodeView.{node_of};
+ghost use Rattle.calculus.specs.Normal.{normal_nodes};
+ghost use Rattle.calculus.specs.Taken.{AreSets, is_in};
 ghost use Rattle.game.specs.Game.{greatest};
 ghost use Rattle.game.specs.Arena.{arena, rows, vertex_of, or_else, place};
 ghost use Rattle.game.specs.Parts.{vertices_of_range, two_sinks};
@@ -13,14 +13,14 @@ ghost use Rattle.game.specs.Steps.{IsRowOf, picks, vertex_by};
 ghost use Rattle.game.specs.Refused.{HasBuildRefusal};
 
 use crate::error::BuildError;
+use crate::gauge::Gauge;
 use crate::graph::{Game, GameBuilder};
 use crate::limits::MOST_VERTICES;
 use crate::player::Player;
-use forms::form::Normal;
-use forms::labels::label_sets;
-use forms::limits::{GREATEST_PRIORITY, MOST_NODES};
-use forms::node::{Kind, Node};
-use gauge::Gauge;
+use calculus::form::Normal;
+use calculus::label_sets::label_sets;
+use calculus::limits::{GREATEST_PRIORITY, MOST_NODES};
+use calculus::node::{Kind, Node};
 use rayon::current_num_threads;
 use rayon::prelude::*;
 use std::alloc::{AllocError, Global};
@@ -78,6 +78,7 @@ fn by_target(row: &mut Vec<Transition>, lts: &Lts, state: u32) -> Result<(), All
 {
     row.clear();
     for transition in lts.from(state) {
+        // For the proof: the field is within its type's limits.
         let _label = transition.label;
         row.push(*transition)?;
     }
@@ -140,6 +141,7 @@ fn push_state(
     ensures { OnOk result (builder.new ≡ builder.old ++ map (vertex_of lts.now.system (length (normal_nodes form.now)) state) (normal_nodes form.now)) }
 {
     form.known();
+    // For the proof: the clauses of this call say what the system has.
     let _states = lts.states();
     by_target(row, lts, state)?;
     let nodes = form.count();
@@ -299,6 +301,7 @@ fn split(
     let states = lts.states();
     let size = states.div_ceil(ranges);
     let parts = parts(rt, alloc, lts, form, sets, size, ranges, gauge)?;
+    // By a match, whose arms are the cases of the proof.
     match sinks(alloc, 2 + states * form.count()) {
         Ok(first) => join_all(first, parts),
         Err(error) => Err(error),
@@ -325,7 +328,7 @@ pub fn build(
     build_seen(rt, alloc, lts, form, None)
 }
 
-/// The same game. A gauge shows about how many of its vertices are made.
+/// The game that `build` makes. A gauge shows about how many of its vertices are made.
 ///
 /// # Errors
 /// Those of `build`.
@@ -354,7 +357,7 @@ pub fn build_seen(
     build_split(rt, alloc, lts, form, ranges, gauge)
 }
 
-/// The same game, whose states are cut into so many ranges of one size. Threads share the ranges where there are several.
+/// The game that `build` makes, whose states are cut into so many ranges of one size. Threads share the ranges where there are several.
 ///
 /// # Errors
 /// Those of `build`.

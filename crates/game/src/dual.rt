@@ -6,7 +6,7 @@ ghost use Rattle.game.specs.Game.{dual as dual_of, greatest, opponent as opponen
 use crate::error::BuildError;
 use crate::graph::{Game, GameBuilder};
 use crate::player::Player;
-use forms::limits::GREATEST_PRIORITY;
+use calculus::limits::GREATEST_PRIORITY;
 use std::alloc::Global;
 
 /// The greatest priority that a vertex of the game has, and 0 where there is no vertex. It takes no look at the vertices.

@@ -20,8 +20,7 @@ impl From<AllocError> for BuildError {
 
     ghost from_gives = { λ error result. result ≡ Memory };
 
-    fn from(error: AllocError) -> Self {
-        let _ = error;
+    fn from(_: AllocError) -> Self {
         BuildError::Memory
     }
 }

@@ -19,7 +19,7 @@ const PRIORITIES: usize = 33;
 
 // What is stored of a vertex. Its successors are `count` many from `start` on.
 #[derive(Clone, Copy)]
-struct Row {
+struct VertexRow {
     start: usize,
     count: u32,
     owner: Player,
@@ -29,7 +29,7 @@ struct Row {
 /// A parity game, whose vertices are the numbers from 0 on.
 #[derive(Drop)]
 pub struct Game {
-    rows: Vec<Row>,
+    rows: Vec<VertexRow>,
     successors: Vec<u32>,
     counts: [u32; PRIORITIES],
     greatest: u32,
@@ -53,6 +53,7 @@ impl Game {
     pub fn known(&self)
         ensures { IsGame self.now }
     {
+        // For the proof: reading a field makes the invariant known.
         let _ = &self.rows;
     }
 
@@ -170,7 +171,11 @@ fn add_counts(counts: &mut [u32; PRIORITIES], others: &[u32; PRIORITIES])
 }
 
 // Rows of vertices whose successors stand that many places further on.
-fn push_moved(rows: &mut Vec<Row>, more: &[Row], places: usize) -> Result<(), AllocError>
+fn push_moved(
+    rows: &mut Vec<VertexRow>,
+    more: &[VertexRow],
+    places: usize,
+) -> Result<(), AllocError>
     requires { AllByRecursion (λ row. row.start + places < 2 ^ 64) more.now }
     ensures { OnOk result (rows.new.items ≡ rows.old.items ++ map (moved places) more.now) }
 {
@@ -178,7 +183,7 @@ fn push_moved(rows: &mut Vec<Row>, more: &[Row], places: usize) -> Result<(), Al
     for row in more {
         let row = *row;
         let start = row.start + places;
-        rows.push(Row { start, ..row })?;
+        rows.push(VertexRow { start, ..row })?;
     }
     Ok(())
 }
@@ -201,7 +206,7 @@ fn is_ascending(limit: usize, numbers: &[u32]) -> bool
 /// A game that is being made, one vertex after another.
 #[derive(Drop)]
 pub struct GameBuilder {
-    rows: Vec<Row>,
+    rows: Vec<VertexRow>,
     successors: Vec<u32>,
     counts: [u32; PRIORITIES],
 }
@@ -257,7 +262,7 @@ impl GameBuilder {
         let start = self.successors.len();
         self.successors.extend_from_slice(successors)?;
         let count = successors.len() as u32;
-        self.rows.push(Row {
+        self.rows.push(VertexRow {
             start,
             count,
             owner,

@@ -1,18 +1,18 @@
 // What a search knows of each vertex.
 
 use game::graph::Game;
+use game::list::List;
 use game::player::Player;
-use lists::list::List;
 use std::alloc::Global;
 
 /// No vertex.
 pub(crate) const NONE: u32 = u32::MAX;
 
 #[derive(Clone, Copy, PartialEq, Eq)]
-pub(crate) enum State {
+pub(crate) enum CellState {
     /// Thought to be won by its priority, for no reason.
     Open,
-    /// The same, as its successors' winners say. They may turn yet.
+    /// Thought to be won by its priority, as its successors' winners say. They may turn yet.
     Calm,
     /// Its successors' winners say who wins it.
     Settled,
@@ -25,7 +25,7 @@ pub(crate) struct Cell {
     pub(crate) owner: Player,
     /// Who is thought to win.
     pub(crate) winner: Player,
-    pub(crate) state: State,
+    pub(crate) state: CellState,
 }
 
 /// Why a vertex is won.
@@ -42,7 +42,7 @@ pub(crate) const NOWHERE: Cell = Cell {
     priority: 0,
     owner: Player::Even,
     winner: Player::Even,
-    state: State::Settled,
+    state: CellState::Settled,
 };
 
 pub(crate) const NO_REASON: Reason = Reason {
@@ -58,7 +58,7 @@ pub(crate) fn open_cells(alloc: Global, game: &Game) -> List<Cell> {
             priority: game.priority(v),
             owner: game.owner(v),
             winner: winner_by(game.priority(v)),
-            state: State::Open,
+            state: CellState::Open,
         };
         cells.set(v as usize, cell);
     }
@@ -91,6 +91,6 @@ impl Cell {
 
     /// Whether the search goes by the winner, where open vertices of less than this priority are yet to be drawn.
     pub(crate) fn is_solid(self, priority: u8) -> bool {
-        self.state == State::Settled || self.priority >= priority
+        self.state == CellState::Settled || self.priority >= priority
     }
 }

@@ -2,10 +2,10 @@
 
 use crate::cells::{Cell, NO_REASON, NONE, NOWHERE, Reason, open_cells};
 use crate::search::settle_all;
+use game::gauge::Gauge;
 use game::graph::Game;
+use game::list::List;
 use game::player::Player;
-use gauge::Gauge;
-use lists::list::List;
 use std::alloc::Global;
 
 /// Who wins each vertex, and the winner's moves, as they are guessed. Nothing is promised of them.

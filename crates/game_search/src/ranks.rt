@@ -13,8 +13,8 @@
 //   would count against v, but none was: a look comes to greater priorities once all lesser ones are settled, and a drawing goes down.
 
 use crate::guess::Guess;
+use game::list::List;
 use game::player::Player;
-use lists::list::List;
 use std::alloc::Global;
 
 // The table has no more than so many words for each vertex.

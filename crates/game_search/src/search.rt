@@ -12,13 +12,13 @@
 //
 // At the end all is settled, and moves and winners fit.
 
-use crate::cells::{Cell, NO_REASON, NONE, NOWHERE, Reason, State, winner_by};
+use crate::cells::{Cell, CellState, NO_REASON, NONE, NOWHERE, Reason, winner_by};
 use crate::layers::{Layers, PRIORITIES};
+use game::gauge::Gauge;
 use game::graph::Game;
+use game::list::List;
 use game::player::Player;
 use game::predecessors::Predecessors;
-use gauge::Gauge;
-use lists::list::List;
 use std::alloc::Global;
 
 // A prime greater than any row is long: with this step all of a row is come to.
@@ -31,14 +31,14 @@ const TIMES: u64 = 300;
 
 // What is done with what leads to a changed vertex.
 #[derive(Clone, Copy)]
-enum Step {
+enum ChangeAction {
     Take,
     Open,
     Join,
 }
 
 #[derive(Drop)]
-struct Search<'g> {
+struct GameSearch<'g> {
     game: &'g Game,
     before: &'g Predecessors,
     gauge: Option<&'g Gauge>,
@@ -69,7 +69,7 @@ pub(crate) fn settle_all(
     let Ok(before) = Predecessors::of(alloc, game) else {
         return None;
     };
-    let mut search = Search {
+    let mut search = GameSearch {
         game,
         before: &before,
         gauge,
@@ -94,7 +94,7 @@ fn successors(game: &Game, v: u32) -> &[u32] {
     }
 }
 
-impl Search<'_> {
+impl GameSearch<'_> {
     // Whether all was settled within the budget.
     fn run(&mut self) -> bool {
         let size = self.open_all();
@@ -153,7 +153,7 @@ impl Search<'_> {
         for _ in 0..u64::MAX {
             let Some(v) = self.open.pop(p) else { break };
             let cell = self.cell(v);
-            if cell.state == State::Open {
+            if cell.state == CellState::Open {
                 self.look_at(v, cell);
             }
         }
@@ -167,14 +167,14 @@ impl Search<'_> {
             return;
         }
         self.calm.push(cell.priority, v);
-        cell.state = State::Calm;
+        cell.state = CellState::Calm;
         self.put(v, cell);
         self.go(v, next);
     }
 
     // Settles a vertex by its move, at a time of its own if it is bad.
     fn settle(&mut self, v: u32, mut cell: Cell, next: u32) {
-        cell.state = State::Settled;
+        cell.state = CellState::Settled;
         cell.winner = cell.winner_by_next(next);
         if cell.is_bad() {
             self.now = self.now.saturating_add(1);
@@ -189,8 +189,8 @@ impl Search<'_> {
         for _ in 0..u64::MAX {
             let Some(v) = self.calm.pop(p) else { break };
             let mut cell = self.cell(v);
-            if cell.state == State::Calm {
-                cell.state = State::Settled;
+            if cell.state == CellState::Calm {
+                cell.state = CellState::Settled;
                 self.put(v, cell);
                 self.go(v, self.reason(v).next);
             }
@@ -200,7 +200,7 @@ impl Search<'_> {
     // Vertices of this priority turned. What lost its support by that is opened only once all is taken: opened, a bad one would be thought the other
     // player's, and its neighbours be taken for that.
     fn turn(&mut self, p: u8) {
-        self.spread(Step::Take, p);
+        self.spread(ChangeAction::Take, p);
         for _ in 0..u64::MAX {
             let Some(v) = self.unsupported.pop() else {
                 break
@@ -209,19 +209,19 @@ impl Search<'_> {
                 self.unsettle(v);
             }
         }
-        self.spread(Step::Open, p);
+        self.spread(ChangeAction::Open, p);
         self.draw(p);
     }
 
     // Does this with what leads to changed vertices, and with what leads to what is changed by that.
-    fn spread(&mut self, step: Step, p: u8) {
+    fn spread(&mut self, step: ChangeAction, p: u8) {
         for _ in 0..u64::MAX {
             let Some(v) = self.changed.pop() else { break };
             self.pass(v, step, p);
         }
     }
 
-    fn pass(&mut self, v: u32, step: Step, p: u8) {
+    fn pass(&mut self, v: u32, step: ChangeAction, p: u8) {
         let row = self.before.get(v);
         self.looks = self
             .looks
@@ -229,16 +229,16 @@ impl Search<'_> {
             .saturating_add(1);
         for u in row {
             match step {
-                Step::Take => self.take(*u, v, p),
-                Step::Open => self.fall(*u, v),
-                Step::Join => self.join(*u, v, p),
+                ChangeAction::Take => self.take(*u, v, p),
+                ChangeAction::Open => self.fall(*u, v),
+                ChangeAction::Join => self.join(*u, v, p),
             }
         }
     }
 
     // Whether a vertex has its winner by way of this successor: by the move, or by all steps.
     fn rests_on(&self, u: u32, cell: Cell, t: u32) -> bool {
-        cell.state != State::Open && (cell.winner != cell.owner || self.reason(u).next == t)
+        cell.state != CellState::Open && (cell.winner != cell.owner || self.reason(u).next == t)
     }
 
     // Takes a vertex that led to what turned, if its winner has no other way, and its priority is no greater.
@@ -274,11 +274,11 @@ impl Search<'_> {
     fn unsettle(&mut self, v: u32) {
         let mut cell = self.cell(v);
         match cell.state {
-            State::Open => return,
-            State::Calm => {}
-            State::Settled => self.changed.push(v),
+            CellState::Open => return,
+            CellState::Calm => {}
+            CellState::Settled => self.changed.push(v),
         }
-        cell.state = State::Open;
+        cell.state = CellState::Open;
         cell.winner = winner_by(cell.priority);
         self.put(v, cell);
         self.open.push(cell.priority, v);
@@ -299,9 +299,9 @@ impl Search<'_> {
             let Some(v) = self.open.at(p, place) else {
                 break
             };
-            if self.cell(v).state == State::Open {
+            if self.cell(v).state == CellState::Open {
                 self.changed.push(v);
-                self.spread(Step::Join, p);
+                self.spread(ChangeAction::Join, p);
             }
         }
     }
@@ -309,7 +309,7 @@ impl Search<'_> {
     // Settles an open vertex of less than this priority, if its solid successors do. This one is solid now.
     fn join(&mut self, u: u32, drawn: u32, p: u8) {
         let cell = self.cell(u);
-        if cell.state != State::Open || cell.priority >= p {
+        if cell.state != CellState::Open || cell.priority >= p {
             return;
         }
         let next = if self.cell(drawn).winner == cell.owner {

@@ -37,8 +37,7 @@ impl Misread {
 impl<T: Drop> From<AllocFailed<T>> for Misread {
     ghost from_gives = { λ _ e. e ≡ Misread.Memory };
 
-    fn from(error: AllocFailed<T>) -> Self {
-        let _ = error;
+    fn from(_: AllocFailed<T>) -> Self {
         Misread::Memory
     }
 }
@@ -46,8 +45,7 @@ impl<T: Drop> From<AllocFailed<T>> for Misread {
 impl From<Memory> for Misread {
     ghost from_gives = { λ _ e. e ≡ Misread.Memory };
 
-    fn from(error: Memory) -> Self {
-        let _ = error;
+    fn from(_: Memory) -> Self {
         Misread::Memory
     }
 }

@@ -1,13 +1,13 @@
 // The vertices to which plays can come from one within some number of steps.
 
 use crate::field::Field;
-use lists::list::List;
+use game::list::List;
 use std::alloc::{AllocError, Global};
 use std::mem;
 
 // A vertex to which a play can come, and from which place of the list it does.
 #[derive(Clone, Copy)]
-struct Found {
+struct FoundVertex {
     v: u32,
     from: u32,
 }
@@ -24,8 +24,8 @@ pub(crate) struct Ball {
     places: List<u32>,
     // What is reached by so many steps, and what by one more.
     level: u32,
-    near: Vec<Found>,
-    later: Vec<Found>,
+    near: Vec<FoundVertex>,
+    later: Vec<FoundVertex>,
 }
 
 impl Ball {
@@ -40,7 +40,7 @@ impl Ball {
             near: Vec::new(alloc),
             later: Vec::new(alloc),
         };
-        ball.near.push(Found { v: center, from: 0 })?;
+        ball.near.push(FoundVertex { v: center, from: 0 })?;
         // Without places no vertex would be known to be in the ball, and it would grow for ever.
         ball.check()?;
         Ok(ball)
@@ -93,7 +93,7 @@ impl Ball {
         Ok(())
     }
 
-    fn add(&mut self, field: Field, found: Found) -> Result<(), AllocError> {
+    fn add(&mut self, field: Field, found: FoundVertex) -> Result<(), AllocError> {
         let from = u32::try_from(self.vertices.len()).unwrap_or(u32::MAX);
         self.vertices.push(found.v);
         self.far.push(self.level);
@@ -102,7 +102,7 @@ impl Ball {
         let is_step = field.is_step(found.v);
         for t in field.ways(found.v) {
             if field.is_won(*t) && self.place(*t).is_none() {
-                let next = Found { v: *t, from };
+                let next = FoundVertex { v: *t, from };
                 if is_step {
                     self.later.push(next)?;
                 } else {

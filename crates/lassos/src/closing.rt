@@ -1,13 +1,13 @@
 // The shortest loop through a place, in the places of a room.
 
 use crate::graph::Graph;
-use lists::list::List;
+use game::list::List;
 use std::alloc::{AllocError, Global};
 use std::mem;
 
 /// Which loops are looked for.
 #[derive(Clone, Copy)]
-pub(crate) struct Asked<'a> {
+pub(crate) struct LoopQuery<'a> {
     pub(crate) graph: &'a Graph,
     /// How many steps lead to each place.
     pub(crate) far: &'a List<u32>,
@@ -32,11 +32,11 @@ pub(crate) struct Loop {
 // A place on the way, and whether the way has had the greatest priority: two for each place. One more stands for the place where the
 // loop begins, once it is closed.
 #[derive(Clone, Copy, PartialEq, Eq)]
-struct Stage(u32);
+struct LoopStage(u32);
 
-impl Stage {
+impl LoopStage {
     fn of(place: u32, had: bool) -> Self {
-        Stage(place.saturating_mul(2).saturating_add(u32::from(had)))
+        LoopStage(place.saturating_mul(2).saturating_add(u32::from(had)))
     }
 
     fn place(self) -> u32 {
@@ -50,9 +50,9 @@ impl Stage {
 
 // A stage to which a way leads, and the one before it.
 #[derive(Clone, Copy)]
-struct Found {
-    stage: Stage,
-    from: Stage,
+struct FoundStage {
+    stage: LoopStage,
+    from: LoopStage,
 }
 
 /// The memory to look for loops.
@@ -64,16 +64,16 @@ pub(crate) struct Closing {
     // The stage before it.
     before: List<u32>,
     clock: u32,
-    near: Vec<Found>,
-    later: Vec<Found>,
-    closed: Stage,
+    near: Vec<FoundStage>,
+    later: Vec<FoundStage>,
+    closed: LoopStage,
     /// How many ways were looked at.
     pub(crate) looks: u64,
 }
 
 impl Closing {
     pub(crate) fn new(alloc: Global, graph: &Graph) -> Result<Self, AllocError> {
-        let closed = Stage::of(u32::try_from(graph.len()).unwrap_or(u32::MAX), false);
+        let closed = LoopStage::of(u32::try_from(graph.len()).unwrap_or(u32::MAX), false);
         let stages = (closed.0 as usize).saturating_add(1);
         let closing = Closing {
             alloc,
@@ -93,12 +93,12 @@ impl Closing {
     }
 
     /// A shortest loop of those that are asked for.
-    pub(crate) fn find(&mut self, asked: Asked) -> Result<Option<Loop>, AllocError> {
+    pub(crate) fn find(&mut self, asked: LoopQuery) -> Result<Option<Loop>, AllocError> {
         self.clock = self.clock.saturating_add(1);
         self.near.clear();
         self.later.clear();
-        let first = Stage::of(asked.start, asked.graph.priority(asked.start) == asked.top);
-        self.near.push(Found {
+        let first = LoopStage::of(asked.start, asked.graph.priority(asked.start) == asked.top);
+        self.near.push(FoundStage {
             stage: first,
             from: first,
         })?;
@@ -116,7 +116,7 @@ impl Closing {
     }
 
     // Looks at what is near, and at what no step leads to from there. The answer is whether the loop is closed.
-    fn look_at_near(&mut self, asked: Asked) -> Result<bool, AllocError> {
+    fn look_at_near(&mut self, asked: LoopQuery) -> Result<bool, AllocError> {
         for next in 0..usize::MAX {
             let Some(found) = self.near.get(next).copied() else {
                 break;
@@ -135,14 +135,14 @@ impl Closing {
         Ok(false)
     }
 
-    fn look_from(&mut self, asked: Asked, from: Stage) -> Result<(), AllocError> {
+    fn look_from(&mut self, asked: LoopQuery, from: LoopStage) -> Result<(), AllocError> {
         let v = from.place();
         let is_step = asked.graph.length(v) > 0;
         let ways = asked.graph.after(v);
         self.looks = self.looks.saturating_add(ways.len() as u64);
         for t in ways {
             if let Some(stage) = self.stage_after(asked, from, *t) {
-                let next = Found { stage, from };
+                let next = FoundStage { stage, from };
                 if is_step {
                     self.later.push(next)?;
                 } else {
@@ -154,7 +154,7 @@ impl Closing {
     }
 
     // The stage of a place after another, if the loop may have it.
-    fn stage_after(&self, asked: Asked, from: Stage, t: u32) -> Option<Stage> {
+    fn stage_after(&self, asked: LoopQuery, from: LoopStage, t: u32) -> Option<LoopStage> {
         let room = asked.rooms.get_or(asked.start as usize, 0);
         if asked.rooms.get_or(t as usize, 0) != room
             || asked.far.get_or(t as usize, 0) < asked.nearest
@@ -165,7 +165,7 @@ impl Closing {
         if had && t == asked.start {
             return Some(self.closed);
         }
-        let stage = Stage::of(t, had);
+        let stage = LoopStage::of(t, had);
         if self.clocks.get_or(stage.0 as usize, 0) == self.clock {
             None
         } else {
@@ -174,11 +174,11 @@ impl Closing {
     }
 
     // The places of the loop that was closed, the one where it begins first. `None` where one stands there twice: then a shorter loop begins elsewhere.
-    fn loop_of(&mut self, asked: Asked, steps: u32) -> Result<Option<Loop>, AllocError> {
+    fn loop_of(&mut self, asked: LoopQuery, steps: u32) -> Result<Option<Loop>, AllocError> {
         let mut places = List::none(self.alloc);
         let mut stage = self.closed;
         for _ in 0..self.clocks.len() {
-            stage = Stage(self.before.get_or(stage.0 as usize, 0));
+            stage = LoopStage(self.before.get_or(stage.0 as usize, 0));
             places.push(stage.place());
             if stage.place() == asked.start {
                 break;
@@ -199,7 +199,7 @@ impl Closing {
     fn is_simple(&mut self, places: &[u32]) -> bool {
         self.clock = self.clock.saturating_add(1);
         for place in places {
-            let first = Stage::of(*place, false).0 as usize;
+            let first = LoopStage::of(*place, false).0 as usize;
             if self.clocks.get_or(first, 0) == self.clock {
                 return false;
             }

@@ -1,11 +1,11 @@
 // A path into a loop, of as few steps as are found.
 
 use crate::ball::Ball;
-use crate::closing::{Asked, Closing, Loop};
+use crate::closing::{Closing, Loop, LoopQuery};
 use crate::field::{Field, winner_by};
 use crate::graph::{Graph, NOWHERE};
 use crate::lasso::Lasso;
-use lists::list::List;
+use game::list::List;
 use std::alloc::{AllocError, Global};
 
 // How many vertices the search looks at first, and how many times more where it finds no loop among them.
@@ -21,7 +21,7 @@ const PRIORITIES: u8 = 33;
 
 // The search in a ball.
 #[derive(Drop)]
-struct Search<'a> {
+struct LassoSearch<'a> {
     alloc: Global,
     graph: &'a Graph,
     far: &'a List<u32>,
@@ -44,7 +44,7 @@ pub(crate) fn find_lasso(
     for _ in 0..u32::BITS {
         ball.grow(field, most)?;
         let graph = Graph::of(alloc, field, &ball)?;
-        if let Some(best) = Search::new(alloc, &graph, &ball.far)?.find(field)? {
+        if let Some(best) = LassoSearch::new(alloc, &graph, &ball.far)?.find(field)? {
             return Ok(Some(Lasso::of(alloc, &ball, &best.places)?));
         }
         if ball.is_whole() {
@@ -55,9 +55,9 @@ pub(crate) fn find_lasso(
     Ok(None)
 }
 
-impl<'a> Search<'a> {
+impl<'a> LassoSearch<'a> {
     fn new(alloc: Global, graph: &'a Graph, far: &'a List<u32>) -> Result<Self, AllocError> {
-        Ok(Search {
+        Ok(LassoSearch {
             alloc,
             graph,
             far,
@@ -100,7 +100,7 @@ impl<'a> Search<'a> {
         nearest: u32,
     ) -> Result<(), AllocError> {
         let far = self.far.get_or(start as usize, 0);
-        let found = self.closing.find(Asked {
+        let found = self.closing.find(LoopQuery {
             graph: self.graph,
             far: self.far,
             rooms,

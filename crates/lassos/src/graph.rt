@@ -3,7 +3,7 @@
 use crate::ball::Ball;
 use crate::field::{Field, priority};
 use crate::strong::Components;
-use lists::list::List;
+use game::list::List;
 use std::alloc::{AllocError, Global};
 
 /// That a vertex is in no room.

@@ -1,7 +1,7 @@
 // A path into a loop.
 
 use crate::ball::Ball;
-use lists::list::List;
+use game::list::List;
 use std::alloc::{AllocError, Global};
 
 // That a place leads nowhere.

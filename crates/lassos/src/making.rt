@@ -3,19 +3,19 @@
 ghost use Rattle.std.specs.Prelude.{◌≡◌, ◌<◌, IfOk, IfSome, IsTrue, length};
 ghost use Rattle.evidence.specs.Evidence.{IsGood, counted, has as has_entry};
 ghost use Rattle.game.specs.Arena.{arena};
-ghost use Rattle.forms.specs.Normal.{normal_nodes};
+ghost use Rattle.calculus.specs.Normal.{normal_nodes};
 ghost use Rattle.witness.specs.Witness.{GoesOneWay, root_of};
 
 use crate::field::{Field, owner, priority};
 use crate::finding::find_lasso;
 use crate::lasso::Lasso;
 use crate::ranks::{count_on, places_backward};
+use calculus::form::Normal;
+use calculus::node::Kind;
 use evidence::draft::Draft;
 use evidence::evidence::Evidence;
 use evidence::verdict::Verdict;
 use evidence::verify::verify;
-use forms::form::Normal;
-use forms::node::Kind;
 use game::graph::Game;
 use game::player::Player;
 use lts::Lts;

@@ -3,8 +3,8 @@
 use crate::field::{priority, winner_by};
 use crate::lasso::Lasso;
 use game::graph::Game;
+use game::list::List;
 use game::player::Player;
-use lists::list::List;
 use std::alloc::{AllocError, Global};
 
 /// The places of a lasso in the order in which their ranks are counted, each after the one to which it leads, where that is counted before: the first is

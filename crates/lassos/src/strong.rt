@@ -1,7 +1,7 @@
 // Strong components (Tarjan 1972), with one number a vertex (as Pearce 2016), without recursion.
 
 use crate::graph::Graph;
-use lists::list::List;
+use game::list::List;
 use std::alloc::{AllocError, Global};
 
 // The number of a place that is not in the part, or whose component is known.
@@ -28,7 +28,7 @@ pub(crate) struct Components {
 
 // The search for strong components.
 #[derive(Drop)]
-struct Search {
+struct ComponentSearch {
     // The least number of a place without a component that is known to be reached.
     low: List<u32>,
     path: List<Call>,
@@ -41,7 +41,7 @@ struct Search {
 impl Components {
     /// Those of a part of a graph.
     pub(crate) fn of(alloc: Global, graph: &Graph, part: &List<u32>) -> Result<Self, AllocError> {
-        let mut search = Search {
+        let mut search = ComponentSearch {
             low: List::filled(alloc, graph.len(), CLOSED),
             path: List::none(alloc),
             waiting: List::none(alloc),
@@ -61,7 +61,7 @@ impl Components {
     }
 }
 
-impl Search {
+impl ComponentSearch {
     // What was found, where there was memory for all.
     fn whole(self) -> Result<Components, AllocError> {
         let are_ways = self.low.is_whole() && self.path.is_whole() && self.waiting.is_whole();

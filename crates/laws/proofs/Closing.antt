@@ -3,7 +3,7 @@ use Rattle.std.proofs.Common.{◌≡◌, ℕ, ◌+◌, ◌⊎◌, Bool, true, no
 use Rattle.std.specs.Str.{bytes_eq}
 use Rattle.calculus.specs.Tree.{Regular, Step, Then, Either, Star, Plus, Formula, True, False, Var, Not, And, Or, Implies, Dia, Box, Mu, Nu}
 use Rattle.calculus.specs.Admitted.{Scope, negated, is_free_to_stand, is_admitted_in, IsAdmitted}
-use Rattle.forms.specs.Tree.{Norm, Variable, size, two, loop_of, modal, with_binder, norm, normal_form}
+use Rattle.calculus.specs.NormalTree.{Norm, Variable, size, two, loop_of, modal, with_binder, norm, normal_form}
 use Rattle.laws.specs.Admissible.{IsClosed}
 use Rattle.laws.proofs.Flags.{cases, both, if_true, if_false}
 use Rattle.laws.proofs.Trees.{Binds, binds_map, to_free}

@@ -5,11 +5,11 @@ use Rattle.std.specs.Prelude.{◌%◌}
 use Rattle.std.proofs.lemmas.Bool.Decides.{eqb_tells}
 use Rattle.systems.specs.System.{System}
 use Rattle.systems.specs.Path.{IsPath}
-use Rattle.forms.specs.Tree.{Norm, Constant, Junction, Modality, Fixpoint, Variable, size, Shape, ConstantNode, JunctionNode, ModalityNode, FixpointNode}
-use Rattle.forms.specs.Tree.{VariableNode}
+use Rattle.calculus.specs.NormalTree.{Norm, Constant, Junction, Modality, Fixpoint, Variable, size, Shape, ConstantNode, JunctionNode, ModalityNode, FixpointNode}
+use Rattle.calculus.specs.NormalTree.{VariableNode}
 use Rattle.game.specs.Arena.{targets}
-use Rattle.progress.specs.Measure.{is_odd}
-use Rattle.forms.proofs.Sizes.{size_some}
+use Rattle.measures.specs.Measure.{is_odd}
+use Rattle.calculus.proofs.Sizes.{size_some}
 use Rattle.laws.specs.Admissible.{IsEach, IsFitting}
 use Rattle.laws.proofs.Flags.{same_or_not, below_or_not}
 use Rattle.laws.proofs.Sat.{Sets, put, sat, iterates, sets, put_here, put_other}

@@ -4,16 +4,16 @@ use Rattle.systems.specs.System.{System, IsSystem}
 use Rattle.calculus.specs.Tree.{Formula}
 use Rattle.calculus.specs.Admitted.{IsAdmitted}
 use Rattle.calculus.specs.Meaning.{no_sets, Satisfies}
-use Rattle.forms.specs.Tree.{Norm, normal_form}
-use Rattle.forms.specs.Nodes.{Node, nodes}
+use Rattle.calculus.specs.NormalTree.{Norm, normal_form}
+use Rattle.calculus.specs.Nodes.{Node, nodes}
 use Rattle.game.specs.Game.{Game}
 use Rattle.game.specs.Wins.{Wins}
 use Rattle.game.specs.Arena.{arena, place}
-use Rattle.progress.specs.Measure.{Measure, Top, IsAtMost}
-use Rattle.progress.specs.Progress.{IsProgress, IsLeastTable, value_at}
-use Rattle.progress.proofs.Measures.{top_last}
-use Rattle.progress.proofs.StrategyTable.{wins_table}
-use Rattle.forms.proofs.Sizes.{size_some}
+use Rattle.measures.specs.Measure.{Measure, Top, IsAtMost}
+use Rattle.measures.specs.Progress.{IsProgress, IsLeastTable, value_at}
+use Rattle.measures.proofs.Measures.{top_last}
+use Rattle.measures.proofs.StrategyTable.{wins_table}
+use Rattle.calculus.proofs.Sizes.{size_some}
 use Rattle.laws.specs.Admissible.{IsNodes}
 use Rattle.laws.specs.NodeMeaning.{node_mean}
 use Rattle.laws.specs.Laws.{EvenWinsWhereMeant, LeastTableDecides, EvenWinsFormula, LeastTableFormula, NestedWins, NestedTableDecides}

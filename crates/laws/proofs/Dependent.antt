@@ -1,11 +1,11 @@
 -- The dependent rule's priorities are admissible.
 use Rattle.std.proofs.Common.{◌≡◌, ℕ, ◌+◌, ◌≤◌, max, Bool, true, false, ap, ◌∙◌, inl, inr, arith, eq-eqb}
 use Rattle.std.specs.Prelude.{if◌then◌else◌}
-use Rattle.forms.specs.Tree.{Norm, Constant, Junction, Modality, Fixpoint, Variable, size, normal_form}
-use Rattle.forms.specs.Nodes.{nodes_by, parity_from}
-use Rattle.forms.specs.Rules.{names, above, dependent}
-use Rattle.forms.specs.declared.priorities.Priorities.TheVariants.{Nested, Dependent}
-use Rattle.progress.specs.Measure.{is_odd}
+use Rattle.calculus.specs.NormalTree.{Norm, Constant, Junction, Modality, Fixpoint, Variable, size, normal_form}
+use Rattle.calculus.specs.Nodes.{nodes_by, parity_from}
+use Rattle.calculus.specs.Rules.{names, above, dependent}
+use Rattle.calculus.specs.declared.priorities.Priorities.TheVariants.{Nested, Dependent}
+use Rattle.measures.specs.Measure.{is_odd}
 use Rattle.laws.specs.Admissible.{IsFree, IsEach, IsAboveInner, priority_in}
 use Rattle.laws.specs.Laws.{ChosenIsAdmissible}
 use Rattle.laws.proofs.Flags.{or_left, or_right}

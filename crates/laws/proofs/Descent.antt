@@ -2,7 +2,7 @@
 use Rattle.std.proofs.Common.{◌≡◌, ℕ, zero, suc, ◌+◌, ◌<◌, ◌≤◌, Bool, true, false, not, ◌||◌, refl, ◌∙◌, ap, subst, inl, inr, arith}
 use Rattle.std.specs.Prelude.{IsTrue, Contains}
 use Rattle.systems.specs.System.{System}
-use Rattle.forms.specs.Tree.{Norm, Constant, Junction, Modality, Fixpoint, Variable, size}
+use Rattle.calculus.specs.NormalTree.{Norm, Constant, Junction, Modality, Fixpoint, Variable, size}
 use Rattle.game.specs.Arena.{targets}
 use Rattle.laws.specs.Admissible.{IsFree, IsEach, IsFitting}
 use Rattle.laws.proofs.Flags.{same_or_not, below_or_not}

@@ -1,11 +1,11 @@
 -- One of the two least tables tells of each vertex, the game's or its dual's.
-use Rattle.progress.proofs.Common.{◌≡◌, ◌≢◌, ◌↔◌, ℕ, ◌<◌, ◌≤◌, ◌⊎◌, List, length, refl, inl, inr, Odd, Game, IsGame, dual, greatest, Measure, Top, Counts}
-use Rattle.progress.proofs.Common.{IsLeastTable, value_at}
-use Rattle.progress.proofs.LeastDecides.{least_decides}
-use Rattle.progress.proofs.NotBoth.{not_both_win}
+use Rattle.measures.proofs.Common.{◌≡◌, ◌≢◌, ◌↔◌, ℕ, ◌<◌, ◌≤◌, ◌⊎◌, List, length, refl, inl, inr, Odd, Game, IsGame, dual, greatest, Measure, Top, Counts}
+use Rattle.measures.proofs.Common.{IsLeastTable, value_at}
+use Rattle.measures.proofs.LeastDecides.{least_decides}
+use Rattle.measures.proofs.NotBoth.{not_both_win}
 use Rattle.laws.proofs.OneWins.{one_wins}
 use Rattle.game.proofs.Duals.{dual_game}
-use Rattle.progress.proofs.Dual.{wins_dual, dual_wins}
+use Rattle.measures.proofs.Dual.{wins_dual, dual_wins}
 
 top_or : (m : Measure) → (m ≡ Top) ⊎ (m ≢ Top)
 top_or Top = inl refl

@@ -2,10 +2,10 @@
 use Rattle.std.proofs.Common.{◌≡◌, ℕ, ◌⊎◌, true, false, List, [], ◌∷◌, map, refl, sym, ap, inl, inr, arith, true≢false}
 use Rattle.std.specs.Prelude.{Contains, ◌≢◌}
 use Rattle.systems.specs.System.{System}
-use Rattle.forms.specs.Tree.{Shape, ConstantNode, JunctionNode, ModalityNode, FixpointNode, VariableNode}
+use Rattle.calculus.specs.NormalTree.{Shape, ConstantNode, JunctionNode, ModalityNode, FixpointNode, VariableNode}
 use Rattle.game.specs.declared.player.Player.TheVariants.{Even, Odd}
 use Rattle.game.specs.Arena.{targets, place, or_else, owner_of, successors_of}
-use Rattle.progress.proofs.Lists.{contains_none}
+use Rattle.measures.proofs.Lists.{contains_none}
 use Rattle.laws.proofs.Lists.{only_in, of_two, in_map, of_map}
 use Rattle.laws.proofs.Moves.{IsNext, Moves, IsChoice}
 

@@ -2,7 +2,7 @@
 use Rattle.std.proofs.Common.{◌≡◌, ℕ, zero, suc, ◌+◌, ◌<◌, Bool, true, false}
 use Rattle.std.specs.Prelude.{Contains, if◌then◌else◌, nat_lt, ◌==◌}
 use Rattle.systems.specs.System.{System}
-use Rattle.forms.specs.Tree.{Norm, Constant, Junction, Modality, Fixpoint, Variable, size}
+use Rattle.calculus.specs.NormalTree.{Norm, Constant, Junction, Modality, Fixpoint, Variable, size}
 use Rattle.game.specs.Arena.{targets}
 use Rattle.laws.proofs.Sat.{Sets, put, join, turns, sat, body, from, sets, joined_map, junction_is, reached_map, modality_is}
 use Rattle.laws.proofs.Targets.{target_below}

@@ -1,6 +1,6 @@
 -- Admissible priorities, from the side of the outer binder and of the inner one.
 use Rattle.std.proofs.Common.{◌≡◌, ℕ, ◌+◌, ◌≤◌, ◌⊎◌, sym, subst, inl, inr}
-use Rattle.forms.specs.Tree.{Norm, Constant, Junction, Modality, Fixpoint, Variable, size}
+use Rattle.calculus.specs.NormalTree.{Norm, Constant, Junction, Modality, Fixpoint, Variable, size}
 use Rattle.laws.specs.Admissible.{IsFree, IsEach, IsFitting, IsAboveInner}
 use Rattle.laws.specs.Laws.{AdmissibleFromInside}
 use Rattle.laws.proofs.Trees.{Binds, to_free, from_free, each_map, each_each}

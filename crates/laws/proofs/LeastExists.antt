@@ -1,14 +1,14 @@
 -- Lifting from the opening table ends in the least progress table.
-use Rattle.progress.proofs.Common.{◌≡◌, ℕ, zero, suc, ◌<◌, ◌≤◌, List, length, map, sym, subst, ◌∙◌, inl, inr, arith, range_with_len, leb_tells, get_or_past}
-use Rattle.progress.proofs.Common.{ext_get_or, length-map-range_with_len, get_or-map-range_with_len, slice_get_within, slice_get_cases, Game, IsGame, Measure}
-use Rattle.progress.proofs.Common.{Top, IsMeasure, IsAtMost, IsLeastTable, IsProgress, IsTable, IsLiftAt, value_at, opening, height, rank}
-use Rattle.progress.proofs.Lifts.{value_measure}
-use Rattle.progress.proofs.Rests.{rests}
-use Rattle.progress.proofs.Lists.{all_map}
-use Rattle.progress.proofs.Measures.{at_most_both, at_most_top}
-use Rattle.progress.proofs.Monotone.{LiesUnder, lift_at, lift_measure, lift_one, lift_rises, lift_under}
-use Rattle.progress.proofs.Ranks.{rank_bounded, rank_more, rank_same}
-use Rattle.progress.proofs.Opening.{opening_table, opening_under}
+use Rattle.measures.proofs.Common.{◌≡◌, ℕ, zero, suc, ◌<◌, ◌≤◌, List, length, map, sym, subst, ◌∙◌, inl, inr, arith, range_with_len, leb_tells, get_or_past}
+use Rattle.measures.proofs.Common.{ext_get_or, length-map-range_with_len, get_or-map-range_with_len, slice_get_within, slice_get_cases, Game, IsGame, Measure}
+use Rattle.measures.proofs.Common.{Top, IsMeasure, IsAtMost, IsLeastTable, IsProgress, IsTable, IsLiftAt, value_at, opening, height, rank}
+use Rattle.measures.proofs.Lifts.{value_measure}
+use Rattle.measures.proofs.Rests.{rests}
+use Rattle.measures.proofs.Lists.{all_map}
+use Rattle.measures.proofs.Measures.{at_most_both, at_most_top}
+use Rattle.measures.proofs.Monotone.{LiesUnder, lift_at, lift_measure, lift_one, lift_rises, lift_under}
+use Rattle.measures.proofs.Ranks.{rank_bounded, rank_more, rank_same}
+use Rattle.measures.proofs.Opening.{opening_table, opening_under}
 
 module _ (g : Game) (game : IsGame g) where
   abbrev Table : Type 0

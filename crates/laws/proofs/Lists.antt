@@ -2,7 +2,7 @@
 use Rattle.std.proofs.Common.{◌≡◌, ℕ, zero, suc, ◌+◌, ◌<◌, ◌≤◌, ◌⊎◌, Bool, true, List, [], ◌∷◌, ◌++◌, length, map, refl, sym, ◌∙◌, ap, subst, inl, inr, arith}
 use Rattle.std.specs.Prelude.{Contains, Some, filter, slice_get}
 use Rattle.std.specs.List.{list_any, list_all, range_with_len}
-use Rattle.progress.proofs.Lists.{contains_cases, contains_first, contains_later, contains_none}
+use Rattle.measures.proofs.Lists.{contains_cases, contains_first, contains_later, contains_none}
 use Rattle.laws.proofs.Flags.{cases, both, and_true, either, or_left, or_right}
 
 -- what a list of one has

@@ -4,7 +4,7 @@ use Rattle.systems.specs.Path.{IsPath}
 use Rattle.systems.specs.System.{System, IsSystem}
 use Rattle.calculus.specs.Tree.{Action, Regular, Step, Then, Either, Star, Plus}
 use Rattle.calculus.specs.Meaning.{Leads, iterate}
-use Rattle.forms.specs.Tree.{Norm, Variable, size, two, loop_of, modal}
+use Rattle.calculus.specs.NormalTree.{Norm, Variable, size, two, loop_of, modal}
 use Rattle.game.specs.Arena.{targets}
 use Rattle.laws.proofs.Flags.{under, under_is, under_under, not_flag, same_test}
 use Rattle.calculus.proofs.Fixpoints.{IsDecided, IsWithin, in_closed, low_closed}

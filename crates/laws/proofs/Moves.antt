@@ -2,11 +2,11 @@
 use Rattle.std.proofs.Common.{◌≡◌, ℕ, ◌+◌, ◌<◌, ◌≤◌, ◌⊎◌, Bool, true, false, List, [], ◌∷◌, refl, sym, ap, ◌∙◌, subst, inl, inr, arith}
 use Rattle.std.specs.Prelude.{Contains, if◌then◌else◌}
 use Rattle.systems.specs.System.{System}
-use Rattle.forms.specs.Tree.{Norm, Constant, Junction, Modality, Fixpoint, Variable, size, Shape, ConstantNode, JunctionNode, ModalityNode, FixpointNode}
-use Rattle.forms.specs.Tree.{VariableNode, shape_at}
+use Rattle.calculus.specs.NormalTree.{Norm, Constant, Junction, Modality, Fixpoint, Variable, size, Shape, ConstantNode, JunctionNode, ModalityNode, FixpointNode}
+use Rattle.calculus.specs.NormalTree.{VariableNode, shape_at}
 use Rattle.game.specs.Arena.{targets}
-use Rattle.progress.proofs.Lists.{contains_first, contains_later}
-use Rattle.forms.proofs.Sizes.{size_some}
+use Rattle.measures.proofs.Lists.{contains_first, contains_later}
+use Rattle.calculus.proofs.Sizes.{size_some}
 use Rattle.laws.specs.Admissible.{IsEach}
 use Rattle.laws.proofs.Flags.{cases, both, same_or_not, below_or_not}
 use Rattle.laws.proofs.Lists.{all_gives}

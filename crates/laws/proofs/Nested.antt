@@ -1,10 +1,10 @@
 -- The nodes by a rule have its priorities, and the nested rule's are admissible.
 use Rattle.std.proofs.Common.{◌≡◌, ℕ, ◌+◌, ◌≤◌, Bool, true, false, refl, ap, ◌∙◌, inl, inr, arith}
 use Rattle.std.specs.Prelude.{◌%◌}
-use Rattle.forms.specs.Tree.{Norm, Constant, Junction, Modality, Fixpoint, Variable, size, normal_form}
-use Rattle.forms.specs.Nodes.{Node, node_at, nodes_by, nested_rule, greatest_nested, parity_from}
-use Rattle.forms.proofs.Sizes.{no_less}
-use Rattle.progress.specs.Measure.{is_odd}
+use Rattle.calculus.specs.NormalTree.{Norm, Constant, Junction, Modality, Fixpoint, Variable, size, normal_form}
+use Rattle.calculus.specs.Nodes.{Node, node_at, nodes_by, nested_rule, greatest_nested, parity_from}
+use Rattle.calculus.proofs.Sizes.{no_less}
+use Rattle.measures.specs.Measure.{is_odd}
 use Rattle.laws.specs.Admissible.{IsFree, IsEach, IsFitting, priority_or, priority_in}
 use Rattle.laws.specs.Laws.{NodesFollow, NestedIsAdmissible}
 use Rattle.laws.proofs.Flags.{same_or_not, same_true, other_false}

@@ -1,8 +1,8 @@
 -- The sets of a tree's nodes: the operands' at their numbers, and the given ones below the tree's.
 use Rattle.std.proofs.Common.{◌≡◌, ℕ, ◌+◌, ◌<◌, ◌≤◌, ◌⊎◌, Bool, true, false, refl, sym, ap, ◌∙◌, inl, inr, arith}
 use Rattle.systems.specs.System.{System}
-use Rattle.forms.specs.Tree.{Norm, Constant, Junction, Modality, Fixpoint, Variable, size}
-use Rattle.forms.proofs.Sizes.{size_some}
+use Rattle.calculus.specs.NormalTree.{Norm, Constant, Junction, Modality, Fixpoint, Variable, size}
+use Rattle.calculus.proofs.Sizes.{size_some}
 use Rattle.laws.proofs.Sat.{Sets, put, join, sat, body, sets, put_here, put_other, join_left, join_right}
 use Rattle.laws.proofs.Growth.{IsIn, body_mono}
 use Rattle.laws.proofs.Settled.{up, settled}

@@ -6,7 +6,7 @@ use Rattle.systems.specs.System.{System, IsSystem}
 use Rattle.calculus.specs.Tree.{Regular, Formula, True, False, Var, Not, And, Or, Implies, Dia, Box, Mu, Nu}
 use Rattle.calculus.specs.Admitted.{Scope, negated, is_free_to_stand, is_admitted_in}
 use Rattle.calculus.specs.Meaning.{Leads, Env, no_sets, with_set, mean}
-use Rattle.forms.specs.Tree.{size, two, modal, with_binder, norm, normal_form}
+use Rattle.calculus.specs.NormalTree.{size, two, modal, with_binder, norm, normal_form}
 use Rattle.laws.specs.Laws.{NormalFormMeans}
 use Rattle.laws.proofs.Flags.{both, not_flag, not_not, either_flag, opposite, same_test, both_of, all_of}
 use Rattle.calculus.proofs.Inside.{leads_inside}

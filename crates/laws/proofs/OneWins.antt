@@ -1,13 +1,13 @@
 -- Each vertex is won by one of the players.
-use Rattle.progress.proofs.Common.{◌≡◌, ◌≢◌, ℕ, zero, suc, ◌%◌, ◌<◌, ◌≤◌, ◌⊎◌, Bool, true, false, ◌&&◌, List, [], ◌∷◌, length, refl, sym, ap, subst, ◌∙◌, inl}
-use Rattle.progress.proofs.Common.{inr, arith, true≢false, IsTrue, Contains, Some, None, Option, ◌==◌, nat_lt, eqb-true, eq-eqb, ltb-true, lt-ltb, eqb_tells}
-use Rattle.progress.proofs.Common.{leb_tells, slice_get_within, IsPath, Player, Even, Odd, Vertex, Game, vertex, IsVertex, IsGame, opponent, Edge, IsOf}
-use Rattle.progress.proofs.Common.{WinsBy, greatest_met, and_from, and_parts, total}
-use Rattle.progress.proofs.Lists.{all_contained, all_got}
-use Rattle.progress.proofs.Searches.{either_way, find_below, find_in}
-use Rattle.progress.proofs.Rests.{total_same}
-use Rattle.progress.proofs.Cycles.{last_met, priority}
-use Rattle.progress.proofs.NotBoth.{path_weaker}
+use Rattle.measures.proofs.Common.{◌≡◌, ◌≢◌, ℕ, zero, suc, ◌%◌, ◌<◌, ◌≤◌, ◌⊎◌, Bool, true, false, ◌&&◌, List, [], ◌∷◌, length, refl, sym, ap, subst, ◌∙◌, inl}
+use Rattle.measures.proofs.Common.{inr, arith, true≢false, IsTrue, Contains, Some, None, Option, ◌==◌, nat_lt, eqb-true, eq-eqb, ltb-true, lt-ltb, eqb_tells}
+use Rattle.measures.proofs.Common.{leb_tells, slice_get_within, IsPath, Player, Even, Odd, Vertex, Game, vertex, IsVertex, IsGame, opponent, Edge, IsOf}
+use Rattle.measures.proofs.Common.{WinsBy, greatest_met, and_from, and_parts, total}
+use Rattle.measures.proofs.Lists.{all_contained, all_got}
+use Rattle.measures.proofs.Searches.{either_way, find_below, find_in}
+use Rattle.measures.proofs.Rests.{total_same}
+use Rattle.measures.proofs.Cycles.{last_met, priority}
+use Rattle.measures.proofs.NotBoth.{path_weaker}
 
 -- ------------------------------------------------------------------ players
 

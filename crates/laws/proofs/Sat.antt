@@ -3,9 +3,9 @@ use Rattle.std.specs.Prelude.{◌≡◌, ℕ, zero, suc, ◌+◌, ◌⊎◌, ◌
 use Rattle.std.proofs.Common.{refl, ◌∙◌, ap, inl, inr, true≢false, ◌<◌, ◌≤◌}
 use Rattle.std.specs.List.{list_any, list_all}
 use Rattle.systems.specs.System.{System}
-use Rattle.forms.specs.Tree.{Norm, Constant, Junction, Modality, Fixpoint, Variable, size}
+use Rattle.calculus.specs.NormalTree.{Norm, Constant, Junction, Modality, Fixpoint, Variable, size}
 use Rattle.game.specs.Arena.{targets}
-use Rattle.progress.proofs.Lists.{contains_cases, contains_first, contains_later, contains_none}
+use Rattle.measures.proofs.Lists.{contains_cases, contains_first, contains_later, contains_none}
 use Rattle.laws.proofs.Flags.{both, and_true, either, or_left, or_right, if_true, if_false, same_true, other_false, below_true, above_false}
 use Rattle.laws.proofs.Lists.{any_gives, gives_any, all_gives, gives_all}
 

@@ -3,13 +3,13 @@ use Rattle.std.proofs.Common.{◌≡◌, ◌≢◌, ℕ, ◌+◌, ◌<◌, ◌�
 use Rattle.std.specs.Prelude.{IsTrue, Contains, Some, slice_get}
 use Rattle.game.specs.declared.player.Player.TheVariants.{Even, Odd}
 use Rattle.systems.specs.System.{System}
-use Rattle.forms.specs.Tree.{Norm, Constant, Junction, Modality, Fixpoint, Variable, size, Shape, shape_at}
-use Rattle.forms.specs.Nodes.{Node}
+use Rattle.calculus.specs.NormalTree.{Norm, Constant, Junction, Modality, Fixpoint, Variable, size, Shape, shape_at}
+use Rattle.calculus.specs.Nodes.{Node}
 use Rattle.game.specs.Game.{Game}
 use Rattle.game.specs.Arena.{targets, place, owner_of, vertex_of, successors_of, arena}
-use Rattle.progress.specs.Measure.{Measure, Top, Counts, Reaches}
-use Rattle.progress.specs.Progress.{IsProgress, value_at}
-use Rattle.progress.proofs.Lists.{contains_first, contains_later}
+use Rattle.measures.specs.Measure.{Measure, Top, Counts, Reaches}
+use Rattle.measures.specs.Progress.{IsProgress, value_at}
+use Rattle.measures.proofs.Lists.{contains_first, contains_later}
 use Rattle.laws.specs.Admissible.{IsEach, IsFitting, IsNodes, priority_in}
 use Rattle.laws.specs.Laws.{TablesAreSound}
 use Rattle.laws.proofs.Lists.{only_in, of_two, in_map, of_map}

@@ -2,8 +2,8 @@
 use Rattle.std.proofs.Common.{◌≡◌, ℕ, ◌+◌, ◌<◌, ◌≤◌, ◌⊎◌, List, [], ◌∷◌, ap, ◌∙◌, inl, inr, arith}
 use Rattle.std.specs.List.{AllByRecursion}
 use Rattle.systems.specs.Path.{IsPath}
-use Rattle.forms.specs.Tree.{Norm, Constant, Junction, Modality, Fixpoint, Variable, size, Shape, shape_at}
-use Rattle.forms.proofs.Sizes.{size_some}
+use Rattle.calculus.specs.NormalTree.{Norm, Constant, Junction, Modality, Fixpoint, Variable, size, Shape, shape_at}
+use Rattle.calculus.proofs.Sizes.{size_some}
 use Rattle.laws.specs.Admissible.{IsFree, IsEach, IsFitting}
 use Rattle.laws.proofs.Trees.{IsWithin, each_both, each_each, each_at, from_free}
 use Rattle.laws.proofs.Moves.{IsNext, IsLaid, stay}

@@ -8,10 +8,10 @@ use Rattle.std.proofs.lemmas.Slice.Eq.{bytes_eq-Decides}
 use Rattle.systems.specs.System.{System, IsSystem}
 use Rattle.calculus.specs.Tree.{Action, Step, Formula}
 use Rattle.calculus.specs.Meaning.{Leads, Env, no_sets, with_set, iterate, mean}
-use Rattle.forms.specs.Tree.{Norm, Constant, Junction, Modality, Fixpoint, Variable, size, binder_name, constant_formula, junction_formula, modality_formula}
-use Rattle.forms.specs.Tree.{fixpoint_formula, formula_from}
+use Rattle.calculus.specs.NormalTree.{Norm, Constant, Junction, Modality, Fixpoint, Variable, size, binder_name, constant_formula, junction_formula, modality_formula}
+use Rattle.calculus.specs.NormalTree.{fixpoint_formula, formula_from}
 use Rattle.game.specs.Arena.{targets}
-use Rattle.forms.proofs.Sizes.{size_some}
+use Rattle.calculus.proofs.Sizes.{size_some}
 use Rattle.laws.specs.NodeMeaning.{tree_mean, node_mean}
 use Rattle.laws.proofs.Flags.{cases, same_or_not, below_or_not}
 use Rattle.calculus.proofs.Inside.{leads_inside}

@@ -2,8 +2,8 @@
 use Rattle.std.proofs.Common.{◌≡◌, ℕ, ◌+◌, ◌<◌, ◌≤◌, ◌⊎◌, List, [], ◌∷◌, ◌++◌, length, map, refl, sym, ap, ap₂, ◌∙◌, subst, inl, inr, append_assoc}
 use Rattle.std.proofs.Common.{append-nil, length-append, arith}
 use Rattle.std.specs.Prelude.{Some, slice_get}
-use Rattle.forms.specs.Tree.{Norm, Constant, Junction, Modality, Fixpoint, Variable, size, preorder}
-use Rattle.forms.proofs.Sizes.{preorder_length}
+use Rattle.calculus.specs.NormalTree.{Norm, Constant, Junction, Modality, Fixpoint, Variable, size, preorder}
+use Rattle.calculus.proofs.Sizes.{preorder_length}
 use Rattle.laws.specs.Admissible.{IsEach, IsFree}
 use Rattle.laws.proofs.Flags.{same_or_not, below_or_not}
 use Rattle.laws.proofs.Lists.{get_right}

@@ -4,12 +4,12 @@ use Rattle.std.specs.Prelude.{slice_get, Option, Some, None, ◌*◌}
 use Rattle.std.specs.List.{range_with_len}
 use Rattle.std.proofs.lemmas.List.{length-map}
 use Rattle.systems.specs.System.{System}
-use Rattle.forms.specs.Tree.{Norm, size, Shape, ConstantNode, shape_at}
-use Rattle.forms.specs.Nodes.{Node}
+use Rattle.calculus.specs.NormalTree.{Norm, size, Shape, ConstantNode, shape_at}
+use Rattle.calculus.specs.Nodes.{Node}
 use Rattle.game.specs.declared.player.Player.TheVariants.{Even}
 use Rattle.game.specs.Game.{vertex}
 use Rattle.game.specs.Arena.{place, vertex_of, rows, arena}
-use Rattle.forms.proofs.Sizes.{preorder_length}
+use Rattle.calculus.proofs.Sizes.{preorder_length}
 use Rattle.laws.specs.Admissible.{IsEach, IsNodes, priority_in, shapes_of}
 use Rattle.laws.proofs.Lists.{get_left, get_right, get_map, map_get, get_range}
 use Rattle.laws.proofs.Trees.{each_map, IsSaid, said}

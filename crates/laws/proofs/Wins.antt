@@ -8,13 +8,13 @@ use Rattle.std.proofs.lemmas.Option.{slice_get_within}
 use Rattle.systems.specs.System.{System}
 use Rattle.systems.specs.Path.{IsPath}
 use Rattle.calculus.specs.Meaning.{no_sets}
-use Rattle.forms.specs.Tree.{Norm, size, Shape}
-use Rattle.forms.specs.Nodes.{Node}
+use Rattle.calculus.specs.NormalTree.{Norm, size, Shape}
+use Rattle.calculus.specs.Nodes.{Node}
 use Rattle.game.specs.declared.player.Player.TheVariants.{Even}
 use Rattle.game.specs.Game.{Vertex, vertex, Game}
 use Rattle.game.specs.Arena.{place, arena, owner_of, successors_of, vertex_of}
 use Rattle.game.specs.Wins.{Edge, IsStrategy, greatest_met, priority_at}
-use Rattle.forms.proofs.Sizes.{size_some}
+use Rattle.calculus.proofs.Sizes.{size_some}
 use Rattle.laws.specs.Admissible.{IsNodes, priority_in}
 use Rattle.laws.specs.Laws.{MeaningWins}
 use Rattle.laws.proofs.Flags.{both, and_true, either, or_right, if_false, le_true, true_le}

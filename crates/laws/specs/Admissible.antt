@@ -1,8 +1,8 @@
 -- Nodes of a closed tree, with priorities that fit its binders.
 use Rattle.std.specs.Prelude.{◌≡◌, ◌≢◌, ℕ, ◌+◌, ◌≤◌, ◌⊎◌, List, map, Option, Some, None, slice_get}
-use Rattle.forms.specs.Tree.{Norm, Constant, Junction, Modality, Fixpoint, Variable, size, Shape, shape_at, preorder}
-use Rattle.forms.specs.Nodes.{Node}
-use Rattle.progress.specs.Measure.{is_odd}
+use Rattle.calculus.specs.NormalTree.{Norm, Constant, Junction, Modality, Fixpoint, Variable, size, Shape, shape_at, preorder}
+use Rattle.calculus.specs.Nodes.{Node}
+use Rattle.measures.specs.Measure.{is_odd}
 
 -- The variable of binder b stands in the tree, and the binder around the tree.
 abbrev pub IsFree : ℕ → ℕ → Norm → Type 0

@@ -4,15 +4,15 @@ use Rattle.systems.specs.System.{System, IsSystem}
 use Rattle.calculus.specs.Tree.{Formula}
 use Rattle.calculus.specs.Admitted.{IsAdmitted}
 use Rattle.calculus.specs.Meaning.{no_sets, Satisfies}
-use Rattle.forms.specs.Tree.{Norm, shape_at, preorder, formula_from, normal_form}
-use Rattle.forms.specs.Nodes.{Node, Rule, nodes_by, nodes}
-use Rattle.forms.specs.Rules.{nodes_with}
-use Rattle.forms.specs.declared.priorities.Priorities.{Priorities}
+use Rattle.calculus.specs.NormalTree.{Norm, shape_at, preorder, formula_from, normal_form}
+use Rattle.calculus.specs.Nodes.{Node, Rule, nodes_by, nodes}
+use Rattle.calculus.specs.Rules.{nodes_with}
+use Rattle.calculus.specs.declared.priorities.Priorities.{Priorities}
 use Rattle.game.specs.declared.player.Player.TheVariants.{Even}
 use Rattle.game.specs.Arena.{place, arena}
 use Rattle.game.specs.Wins.{IsStrategy, Wins}
-use Rattle.progress.specs.Measure.{Measure, Top}
-use Rattle.progress.specs.Progress.{IsProgress, IsLeastTable, value_at}
+use Rattle.measures.specs.Measure.{Measure, Top}
+use Rattle.measures.specs.Progress.{IsProgress, IsLeastTable, value_at}
 use Rattle.laws.specs.Admissible.{IsAboveInner, IsAdmissible, IsClosed, IsEach, IsNodes, priority_in, shapes_of}
 use Rattle.laws.specs.NodeMeaning.{node_mean}
 

@@ -2,7 +2,7 @@
 use Rattle.std.specs.Prelude.{◌≡◌, ℕ, ◌+◌, ◌⊎◌}
 use Rattle.systems.specs.System.{System}
 use Rattle.calculus.specs.Meaning.{Env, with_set, mean}
-use Rattle.forms.specs.Tree.{Norm, Constant, Junction, Modality, Fixpoint, Variable, size, binder_name, formula_from}
+use Rattle.calculus.specs.NormalTree.{Norm, Constant, Junction, Modality, Fixpoint, Variable, size, binder_name, formula_from}
 
 -- the states at which the tree holds, its first node having this number
 abbrev pub tree_mean : System → ℕ → Norm → Env → ℕ → Type 0

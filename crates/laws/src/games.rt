@@ -1,6 +1,6 @@
 // What holds of all parity games and their progress measures (Jurdziński 2000, Small progress measures for solving parity games).
 
-ghost use Rattle.progress.specs.Laws.{
+ghost use Rattle.measures.specs.Laws.{
   DualTop,
   DualWins,
   LeastDecides,
@@ -17,13 +17,13 @@ ghost use Rattle.progress.specs.Laws.{
 };
 
 /// For each priority and measure there is a least measure that reaches it.
-#[tactic(auto, using(progress::proofs::Measures::prog))]
+#[tactic(auto, using(measures::proofs::Measures::prog))]
 pub fn prog_exists()
     ensures { ProgExists }
 {}
 
 /// Even wins each vertex at which some progress table isn't top, by choosing a successor with the least `prog`.
-#[tactic(auto, using(progress::proofs::TableWins::table_wins))]
+#[tactic(auto, using(measures::proofs::TableWins::table_wins))]
 pub fn table_wins()
     ensures { TableWins }
 {}
@@ -74,19 +74,19 @@ pub fn dual_top()
 {}
 
 /// Lifts from the opening table, at one vertex after another in any order, come to no progress table but the least.
-#[tactic(auto, using(progress::proofs::Lifting::lifting_least))]
+#[tactic(auto, using(measures::proofs::Lifting::lifting_least))]
 pub fn lifting_finds_least()
     ensures { LiftingFindsLeast }
 {}
 
 /// Lifts that each change the table are at most the number of vertices times that of the lists of counts.
-#[tactic(auto, using(progress::proofs::Lifting::lifting_ends))]
+#[tactic(auto, using(measures::proofs::Lifting::lifting_ends))]
 pub fn lifting_ends()
     ensures { LiftingEnds }
 {}
 
 /// The rank of a measure, the number of measures below it, is its counts read in mixed radix.
-#[tactic(auto, using(progress::proofs::Ranks::rank_is))]
+#[tactic(auto, using(measures::proofs::Ranks::rank_is))]
 pub fn rank_is_code()
     ensures { RankIsCode }
 {}

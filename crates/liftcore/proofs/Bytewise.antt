@@ -15,7 +15,7 @@ use Rattle.liftcore.specs.Begun.{IsBegunLine, IsUnspaced, IsValue}
 use Rattle.liftcore.specs.Scan.{event_at, event_with, two_numbers}
 use Rattle.liftcore.specs.declared.event.Event.{Event}
 use Rattle.liftcore.specs.declared.event.Event.TheVariants as event
-use Rattle.liftcore.specs.declared.line.Part.TheVariants.{Faulty, Vertex, Worker}
+use Rattle.liftcore.specs.declared.line.LinePart.TheVariants.{Faulty, Vertex, Worker}
 use Rattle.liftcore.proofs.Lines.{digits_free}
 
 -- ---- digits

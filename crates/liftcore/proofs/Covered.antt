@@ -7,15 +7,15 @@ use Rattle.std.specs.Ordering.{is_lt}
 use Rattle.std.proofs.lemmas.Bool.Decides.{eqb_tells}
 use Rattle.std.proofs.lemmas.Option.{none-some, same_Some, slice_get_within}
 use Rattle.game.specs.Game.{Game, IsGame, Vertex, vertex}
-use Rattle.progress.specs.Measure.{Measure, IsAtMost, measure_cmp}
-use Rattle.progress.specs.Progress.{IsLift, IsProgress, value_at}
-use Rattle.progress.specs.Settling.{IsStill}
-use Rattle.progress.proofs.Bests.{vertex_here}
-use Rattle.progress.proofs.Lifts.{Settled}
-use Rattle.progress.proofs.Lists.{contains_none}
-use Rattle.progress.proofs.Measures.{at_most_itself, below_at_most, own_greater}
-use Rattle.progress.proofs.Plain.{value_set_other, value_set_same}
-use Rattle.progress.proofs.Settling.{all_still}
+use Rattle.measures.specs.Measure.{Measure, IsAtMost, measure_cmp}
+use Rattle.measures.specs.Progress.{IsLift, IsProgress, value_at}
+use Rattle.measures.specs.Settling.{IsStill}
+use Rattle.measures.proofs.Bests.{vertex_here}
+use Rattle.measures.proofs.Lifts.{Settled}
+use Rattle.measures.proofs.Lists.{contains_none}
+use Rattle.measures.proofs.Measures.{at_most_itself, below_at_most, own_greater}
+use Rattle.measures.proofs.Plain.{value_set_other, value_set_same}
+use Rattle.measures.proofs.Settling.{all_still}
 use Rattle.game.specs.NumberSet.{with_number}
 use Rattle.liftcore.specs.Core.{with_note, without, Core, Note, Worker, Idle, Holding, Owing, is_empty, is_idle, is_quiet, noted, owing, starting_core}
 use Rattle.game.specs.Predecessors.{predecessors}

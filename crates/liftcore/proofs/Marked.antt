@@ -7,7 +7,7 @@ use Rattle.std.proofs.lemmas.Bool.{cases_eq, ne_eqb, ltb-true, lt-ltb, cases_lt}
 use Rattle.std.proofs.lemmas.List.{get_or-set_other, get_or-set_same, get_or_past, get_or-replicate, length-set, length-replicate}
 use Rattle.std.specs.List.{list_any, range_with_len}
 use Rattle.game.specs.NumberSet.{with_number}
-use Rattle.progress.proofs.Lists.{contains_cases, contains_first, contains_later, contains_none, count_no, count_yes}
+use Rattle.measures.proofs.Lists.{contains_cases, contains_first, contains_later, contains_none, count_no, count_yes}
 use Rattle.liftcore.specs.Core.{without}
 use Rattle.liftcore.specs.Marks.{IsMarked, members}
 use Rattle.liftcore.specs.Work.{AreOwed}

@@ -6,8 +6,8 @@ use Rattle.std.specs.List.{AllZip, list_all, list_any, range_with_len}
 use Rattle.std.proofs.Common.{arith}
 use Rattle.std.proofs.lemmas.Option.{none-some, same_Some, slice_get_within}
 use Rattle.game.specs.Game.{Game, Vertex, vertex}
-use Rattle.progress.specs.Measure.{Measure}
-use Rattle.progress.proofs.Lists.{contains_first, contains_later, contains_none}
+use Rattle.measures.specs.Measure.{Measure}
+use Rattle.measures.proofs.Lists.{contains_first, contains_later, contains_none}
 use Rattle.liftcore.specs.Core.{with_note, Note, Worker, Idle, Holding, Owing, is_idle, noted, owing}
 use Rattle.game.specs.Predecessors.{predecessors, successors_at}
 use Rattle.liftcore.proofs.Sets.{and_both, eqb_same, gives_filter, gives_range}

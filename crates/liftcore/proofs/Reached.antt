@@ -2,14 +2,14 @@
 use Rattle.std.proofs.Common.{◌≡◌, ℕ, ◌+◌, Bool, true, false, List, [], ◌∷◌, ◌++◌, arith, refl, subst, sym, count_by, inl, inr, not}
 use Rattle.std.specs.Prelude.{IsTrue}
 use Rattle.game.specs.Game.{Game, IsGame}
-use Rattle.progress.specs.Progress.{IsProgress}
-use Rattle.progress.specs.Tables.{IsSettled}
+use Rattle.measures.specs.Progress.{IsProgress}
+use Rattle.measures.specs.Tables.{IsSettled}
 use Rattle.liftcore.specs.Core.{Core, is_quiet, starting_core}
 use Rattle.liftcore.specs.Runs.{Comes, IsReached}
 use Rattle.liftcore.specs.Step.{Step, Steps}
 use Rattle.liftcore.specs.declared.event.Event.{Event}
 use Rattle.liftcore.proofs.Covered.{quiet_is_settled}
-use Rattle.progress.proofs.Lists.{count_no, count_yes}
+use Rattle.measures.proofs.Lists.{count_no, count_yes}
 use Rattle.liftcore.proofs.Sets.{cases}
 use Rattle.liftcore.proofs.Sound.{game_stays, settled_is_least}
 

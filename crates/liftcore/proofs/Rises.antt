@@ -1,11 +1,11 @@
 -- Few events raise the table.
 use Rattle.std.proofs.Common.{◌≡◌, ◌≢◌, ◌↔◌, ℕ, ◌+◌, ◌*◌, ◌≤◌, Bool, true, false, List, [], ◌∷◌, length, count_by, refl, sym, ◌∙◌, ap, subst, arith, IsTrue}
 use Rattle.game.specs.Game.{Game, IsGame}
-use Rattle.progress.specs.Lifting.{height, sum_of}
-use Rattle.progress.specs.Progress.{IsTable}
-use Rattle.progress.proofs.Lifting.{sum_above, sum_least}
-use Rattle.progress.proofs.Lists.{count_no, count_yes}
-use Rattle.progress.proofs.Settling.{plain_table, sum_limit}
+use Rattle.measures.specs.Lifting.{height, sum_of}
+use Rattle.measures.specs.Progress.{IsTable}
+use Rattle.measures.proofs.Lifting.{sum_above, sum_least}
+use Rattle.measures.proofs.Lists.{count_no, count_yes}
+use Rattle.measures.proofs.Settling.{plain_table, sum_limit}
 use Rattle.liftcore.specs.Core.{Core, starting_core}
 use Rattle.liftcore.specs.Step.{RaisingSteps, Step}
 use Rattle.liftcore.specs.declared.event.Event.{Event}

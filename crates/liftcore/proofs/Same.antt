@@ -3,8 +3,8 @@ use Rattle.std.proofs.Common.{◌≡◌, ℕ, Bool, true, false, List, [], ◌�
 use Rattle.std.specs.List.{AllZip}
 use Rattle.std.proofs.lemmas.Option.{same_Some}
 use Rattle.game.specs.Game.{Vertex, vertex}
-use Rattle.progress.specs.Measure.{Measure}
-use Rattle.progress.specs.Progress.{IsLift}
+use Rattle.measures.specs.Measure.{Measure}
+use Rattle.measures.specs.Progress.{IsLift}
 use Rattle.game.specs.NumberSet.{with_number}
 use Rattle.liftcore.specs.Core.{with_note, without, Core, Note, Holding, Owing, noted, owing}
 use Rattle.liftcore.specs.Step.{Does, LiftsHeld, Step, after_raise, value_in, with_pending, with_worker}

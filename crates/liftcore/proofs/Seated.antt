@@ -11,17 +11,17 @@ use Rattle.std.proofs.lemmas.Option.{none-some}
 use Rattle.std.proofs.lemmas.List.Sorted.{searched}
 use Rattle.game.specs.Game.{Game, IsAscending, IsGame, IsVertex, Vertex, vertex}
 use Rattle.game.specs.Predecessors.{successors_at}
-use Rattle.progress.specs.Measure.{Measure, Top}
-use Rattle.progress.proofs.Lists.{all_got, contains_cases, contains_first, contains_later, contains_none}
+use Rattle.measures.specs.Measure.{Measure, Top}
+use Rattle.measures.proofs.Lists.{all_got, contains_cases, contains_first, contains_later, contains_none}
 use Rattle.liftcore.specs.Core.{Holding, Note, Owing, noted, owing, with_note}
 use Rattle.liftcore.specs.Marks.{IsMarked, members}
 use Rattle.liftcore.specs.Reading.{AreRead, IsReadAt, successors_read, values_of}
 use Rattle.liftcore.specs.Seats.{IsSeat, notes_from, notes_of, worker_of}
 use Rattle.liftcore.specs.Work.{CanRaise, CanRead, IsUnread, Owes}
-use Rattle.liftcore.specs.declared.seat.Seat.{Seat}
+use Rattle.liftcore.specs.declared.seat.CoreWorker.{CoreWorker}
 use Rattle.liftcore.proofs.Notes.{holds_owes, holds_same, idle_owes, owes_same, owing_has}
 use Rattle.liftcore.proofs.Marked.{marked_member, member_marked}
-use Rattle.progress.proofs.Bests.{vertex_here}
+use Rattle.measures.proofs.Bests.{vertex_here}
 use Rattle.game.proofs.Placing.{successors_of as successors_are}
 use Rattle.liftcore.proofs.Sets.{same_eqb}
 
@@ -180,13 +180,13 @@ zip_noted_at notes (t ∷ ts) (m ∷ ms) (suc k) h l e = zip_noted_at notes ts m
 
 -- ---- the seat of a worker
 
-pub worker_holding : (s : Seat) → s.holding ≡ true → worker_of s ≡ Holding s.turn.vertex (notes_of s.turn)
+pub worker_holding : (s : CoreWorker) → s.holding ≡ true → worker_of s ≡ Holding s.turn.vertex (notes_of s.turn)
 worker_holding s h = ap (λ (b : Bool). if b then Holding s.turn.vertex (notes_of s.turn) else owing (members s.owed)) h
 
-pub worker_free : (s : Seat) → s.holding ≡ false → worker_of s ≡ owing (members s.owed)
+pub worker_free : (s : CoreWorker) → s.holding ≡ false → worker_of s ≡ owing (members s.owed)
 worker_free s h = ap (λ (b : Bool). if b then Holding s.turn.vertex (notes_of s.turn) else owing (members s.owed)) h
 
-module _ (g : Game) (s : Seat) (is : IsSeat g s) where
+module _ (g : Game) (s : CoreWorker) (is : IsSeat g s) where
   ascend : IsAscending (successors_read s.turn)
   ascend = successors_ascend s.turn.game s.turn.vertex is.turn.game
 
@@ -267,12 +267,12 @@ module _ (g : Game) (s : Seat) (is : IsSeat g s) where
       ∙ ap (λ (n : ℕ). with_note (record { vertex = n; value = m }) (notes_of s.turn)) r.here
 
 -- what a free worker owes is marked
-pub owes_marked : (s : Seat) (v : ℕ) → s.holding ≡ false → IsMarked s.owed v → Owes (worker_of s) v
+pub owes_marked : (s : CoreWorker) (v : ℕ) → s.holding ≡ false → IsMarked s.owed v → Owes (worker_of s) v
 owes_marked s v h e =
     let among = marked_member s.owed v e in
     record { owed = members s.owed; owes = worker_free s h ∙ owing_has (members s.owed) v among; among = among }
 
-pub marked_owes : (s : Seat) (v : ℕ) → Owes (worker_of s) v → (s.holding ≡ false) × IsMarked s.owed v
+pub marked_owes : (s : CoreWorker) (v : ℕ) → Owes (worker_of s) v → (s.holding ≡ false) × IsMarked s.owed v
 marked_owes s v o = elim (cases_Bool s.holding) [
   | inl h ↦ absurd (holds_owes s.turn.vertex (notes_of s.turn) o.owed (sym (worker_holding s h) ∙ o.owes))
   | inr h ↦ (h, member_marked s.owed v (by (members s.owed) (sym (worker_free s h) ∙ o.owes)))

@@ -5,7 +5,7 @@ use Rattle.std.specs.Prelude.{filter, slice_get, nat_lt, ◌==◌}
 use Rattle.std.specs.List.{list_any, range_with_len}
 use Rattle.std.proofs.lemmas.Bool.Decides.{eqb_tells}
 use Rattle.std.proofs.lemmas.Option.{none-some, same_Some}
-use Rattle.progress.proofs.Lists.{contains_cases, contains_first, contains_later, contains_none}
+use Rattle.measures.proofs.Lists.{contains_cases, contains_first, contains_later, contains_none}
 use Rattle.game.specs.NumberSet.{with_number}
 use Rattle.liftcore.specs.Core.{without}
 

@@ -4,11 +4,11 @@ use Rattle.std.specs.Prelude.{slice_get, unwrap_or}
 use Rattle.std.specs.Ordering.{is_lt}
 use Rattle.std.proofs.lemmas.Option.{none-some, slice_get_within}
 use Rattle.game.specs.Game.{Game, IsGame}
-use Rattle.progress.specs.Measure.{Measure, IsAtMost, measure_cmp}
-use Rattle.progress.specs.Progress.{IsProgress, opening, value_at}
-use Rattle.progress.specs.Tables.{IsPlain, IsSettled, LiesBelow}
-use Rattle.progress.proofs.Measures.{at_most_itself, at_most_trans, below_at_most}
-use Rattle.progress.proofs.Plain.{opening_plain, plain_settled, set_plain}
+use Rattle.measures.specs.Measure.{Measure, IsAtMost, measure_cmp}
+use Rattle.measures.specs.Progress.{IsProgress, opening, value_at}
+use Rattle.measures.specs.Tables.{IsPlain, IsSettled, LiesBelow}
+use Rattle.measures.proofs.Measures.{at_most_itself, at_most_trans, below_at_most}
+use Rattle.measures.proofs.Plain.{opening_plain, plain_settled, set_plain}
 use Rattle.liftcore.specs.Core.{with_note, without, Core, Note, Idle, Holding, Owing, noted, owing, starting_core}
 use Rattle.game.specs.Predecessors.{predecessors}
 use Rattle.liftcore.specs.Step.{Does, LiftsHeld, Step, Steps, after_raise, value_in, with_value, with_worker}

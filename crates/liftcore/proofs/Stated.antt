@@ -9,11 +9,11 @@ use Rattle.std.proofs.lemmas.List.{get_or_past, length-set}
 use Rattle.std.proofs.lemmas.Option.{get_or_from_slice_get, none-some, same_Some, slice_get-get_or, slice_get-map, slice_get_read, slice_get_within}
 use Rattle.game.specs.Game.{Game, vertex}
 use Rattle.game.specs.Predecessors.{predecessors, successors_at}
-use Rattle.progress.specs.Measure.{Measure, measure_cmp}
-use Rattle.progress.specs.Progress.{IsLift, greater_of, value_at}
-use Rattle.progress.specs.Progs.{IsDemandOf}
-use Rattle.progress.specs.Tables.{GameTable}
-use Rattle.progress.proofs.Measures.{at_most_itself, not_below}
+use Rattle.measures.specs.Measure.{Measure, measure_cmp}
+use Rattle.measures.specs.Progress.{IsLift, greater_of, value_at}
+use Rattle.measures.specs.Progs.{IsDemandOf}
+use Rattle.measures.specs.Tables.{GameTable}
+use Rattle.measures.proofs.Measures.{at_most_itself, not_below}
 use Rattle.liftcore.specs.Core.{Core, Holding, Idle, Note, Owing, Worker, is_idle, noted, owing, with_note, without}
 use Rattle.liftcore.specs.Marks.{IsMarked, members}
 use Rattle.liftcore.specs.Reading.{AreRead, successors_read, values_of}
@@ -21,8 +21,8 @@ use Rattle.liftcore.specs.Seats.{AreIdle, HasSeat, IsSeat, core_of, notes_of, wo
 use Rattle.liftcore.specs.declared.event.Event.TheVariants.{Push, Raise, Read, Take}
 use Rattle.liftcore.specs.Step.{Pushes, LiftsHeld, ReadsVertex, Skips, TakesVertex, after_raise, value_in, with_value, with_worker}
 use Rattle.liftcore.specs.Work.{AreOwed, CanRaise, CanRead, IsUnread, Owes}
-use Rattle.liftcore.specs.declared.seat.Seat.{Seat}
-use Rattle.liftcore.specs.declared.state.State.{State}
+use Rattle.liftcore.specs.declared.seat.CoreWorker.{CoreWorker}
+use Rattle.liftcore.specs.declared.state.CoreParts.{CoreParts}
 use Rattle.liftcore.proofs.Marked.{insert_members, marked_member, member_marked, owed_members, remove_members}
 use Rattle.liftcore.proofs.Notes.{all_idle, holds_same, owing_has, owing_holds}
 use Rattle.liftcore.proofs.Seated.{here, marked_owes, unread_reads, unread_waits, worker_free, worker_holding, zip_read}
@@ -30,24 +30,24 @@ use Rattle.liftcore.proofs.Sets.{get_back}
 
 -- ---- the workers of seats
 
-pub worker_there : (seats : List Seat) (w : ℕ) (x : Seat) → slice_get seats w ≡ Some x → slice_get (map worker_of seats) w ≡ Some (worker_of x)
+pub worker_there : (seats : List CoreWorker) (w : ℕ) (x : CoreWorker) → slice_get seats w ≡ Some x → slice_get (map worker_of seats) w ≡ Some (worker_of x)
 worker_there seats w x e = slice_get-map worker_of seats w ∙ ap (option_map worker_of) e
 
-pub seat_there : (seats : List Seat) (w : ℕ) (y : Worker) → slice_get (map worker_of seats) w ≡ Some y → (x : Seat) × (slice_get seats w ≡ Some x)
+pub seat_there : (seats : List CoreWorker) (w : ℕ) (y : Worker) → slice_get (map worker_of seats) w ≡ Some y → (x : CoreWorker) × (slice_get seats w ≡ Some x)
     × (worker_of x ≡ y)
 seat_there [] w y e = absurd (none-some y e)
 seat_there (x ∷ xs) zero y e = (x, refl, same_Some (worker_of x) y e)
 seat_there (x ∷ xs) (suc w) y e = seat_there xs w y e
 
-pub set_seat : (seats : List Seat) (w : ℕ) (x : Seat) → map worker_of (slice_set seats w x) ≡ slice_set (map worker_of seats) w (worker_of x)
+pub set_seat : (seats : List CoreWorker) (w : ℕ) (x : CoreWorker) → map worker_of (slice_set seats w x) ≡ slice_set (map worker_of seats) w (worker_of x)
 set_seat [] w x = refl
 set_seat (y ∷ ys) zero x = refl
 set_seat (y ∷ ys) (suc w) x = ap (λ zs. worker_of y ∷ zs) (set_seat ys w x)
 
-pub seats_kept : (g : Game) (seats items : List Seat) (w : ℕ) (old x : Seat) → ((k : ℕ) (y : Seat) → slice_get seats k ≡ Some y → IsSeat g y)
+pub seats_kept : (g : Game) (seats items : List CoreWorker) (w : ℕ) (old x : CoreWorker) → ((k : ℕ) (y : CoreWorker) → slice_get seats k ≡ Some y → IsSeat g y)
     → slice_get seats w ≡ Some old → IsSeat g x
-    → items ≡ slice_set seats w x → (k : ℕ) (y : Seat) → slice_get items k ≡ Some y → IsSeat g y
-seats_kept g seats items w old x all there is e k y at = elim (get_back seats w k x old y there (ap (λ (zs : List Seat). slice_get zs k) (sym e) ∙ at)) [
+    → items ≡ slice_set seats w x → (k : ℕ) (y : CoreWorker) → slice_get items k ≡ Some y → IsSeat g y
+seats_kept g seats items w old x all there is e k y at = elim (get_back seats w k x old y there (ap (λ (zs : List CoreWorker). slice_get zs k) (sym e) ∙ at)) [
   | inl q ↦ subst (IsSeat g) q is
   | inr q ↦ all k y q
 ]
@@ -56,7 +56,7 @@ pub marked_inside : (marks : List Bool) (v : ℕ) → IsMarked marks v → v < l
 marked_inside marks v h = elim (cases_lt v (length marks)) [ inl l ↦ l | inr l ↦ absurd (true≢false (sym h ∙ get_or_past marks v false l)) ]
 
 -- a worker that can raise has read all
-pub raises_whole : (g : Game) (s : Seat) → IsSeat g s → CanRaise g (worker_of s) → (s.holding ≡ true) × AreRead s.turn (length (successors_read s.turn))
+pub raises_whole : (g : Game) (s : CoreWorker) → IsSeat g s → CanRaise g (worker_of s) → (s.holding ≡ true) × AreRead s.turn (length (successors_read s.turn))
 raises_whole g s is c = elim (cases_Bool s.holding) [
   | inl h ↦ (h, λ k l. elim (cases_Bool (slice_index_or s.turn.marks k false)) [ inl e ↦ e | inr e ↦ absurd (unread_waits g s is k h l e c) ])
   | inr h ↦ absurd (owing_holds (members s.owed) c.u c.notes (sym (worker_free s h) ∙ c.holds))
@@ -82,7 +82,7 @@ table g vs = record { game = g; values = vs }
 abbrev pub core : GameTable → List ℕ → List Worker → Core
 core t ps ws = record { table = t; pending = ps; workers = ws }
 
-module _ (s : State) (w : ℕ) (x new : Seat) (items : List Seat) (there : slice_get s.seats.items w ≡ Some x) (are : items ≡ slice_set s.seats.items w new) where
+module _ (s : CoreParts) (w : ℕ) (x new : CoreWorker) (items : List CoreWorker) (there : slice_get s.seats.items w ≡ Some x) (are : items ≡ slice_set s.seats.items w new) where
   workers_are : (y : Worker) → worker_of new ≡ y → map worker_of items ≡ slice_set (map worker_of s.seats.items) w y
   workers_are y e = ap (map worker_of) are ∙ (set_seat s.seats.items w new ∙ ap (slice_set (map worker_of s.seats.items) w) e)
 
@@ -167,22 +167,22 @@ module _ (s : State) (w : ℕ) (x new : Seat) (items : List Seat) (there : slice
 
 -- ---- what was looked up
 
-pub got : (xs ys : List Seat) (w : ℕ) (x : Seat) → xs ≡ ys → true ≡ nat_lt w (length xs) → x ≡ get_or xs w x → slice_get ys w ≡ Some x
-got xs ys w x e l i = ap (λ (zs : List Seat). slice_get zs w) (sym e) ∙ slice_get_read xs (length xs) w x refl (ltb-true w (length xs) (sym l)) i
+pub got : (xs ys : List CoreWorker) (w : ℕ) (x : CoreWorker) → xs ≡ ys → true ≡ nat_lt w (length xs) → x ≡ get_or xs w x → slice_get ys w ≡ Some x
+got xs ys w x e l i = ap (λ (zs : List CoreWorker). slice_get zs w) (sym e) ∙ slice_get_read xs (length xs) w x refl (ltb-true w (length xs) (sym l)) i
 
-pub got_none : (xs ys : List Seat) (w : ℕ) (x : Seat) → xs ≡ ys → false ≡ nat_lt w (length xs) → slice_get ys w ≡ Some x → ⊥
+pub got_none : (xs ys : List CoreWorker) (w : ℕ) (x : CoreWorker) → xs ≡ ys → false ≡ nat_lt w (length xs) → slice_get ys w ≡ Some x → ⊥
 got_none xs ys w x e l i =
-    let h = slice_get_within xs w x (ap (λ (zs : List Seat). slice_get zs w) e ∙ i) in
+    let h = slice_get_within xs w x (ap (λ (zs : List CoreWorker). slice_get zs w) e ∙ i) in
     true≢false (sym (lt-ltb w (length xs) h) ∙ sym l)
 
-pub at_index : (s : State) (w : ℕ) (P : Seat → Type 0) (r : Seat) → HasSeat s w P → r ≡ get_or s.seats.items w r → (slice_get s.seats.items w ≡ Some r) × P r
+pub at_index : (s : CoreParts) (w : ℕ) (P : CoreWorker → Type 0) (r : CoreWorker) → HasSeat s w P → r ≡ get_or s.seats.items w r → (slice_get s.seats.items w ≡ Some r) × P r
 at_index s w P r h e =
     let same : r ≡ h.seat = e ∙ get_or_from_slice_get s.seats.items w h.seat r h.here in
-    (h.here ∙ ap (λ (x : Seat). Some x) (sym same), subst P (sym same) h.is)
+    (h.here ∙ ap (λ (x : CoreWorker). Some x) (sym same), subst P (sym same) h.is)
 
 -- ---- what can't be done is skipped
 
-module _ (s : State) (w : ℕ) where
+module _ (s : CoreParts) (w : ℕ) where
   pub skip_take : (v : ℕ) → (IsMarked s.pending v → HasSeat s w (λ x. worker_of x ≡ Idle) → ⊥) → Skips (core_of s) (Take w v) (core_of s)
   skip_take v never = record {
     nothing = λ c d. (let x = seat_there s.seats.items w Idle d.idle
@@ -235,7 +235,7 @@ module _ (s : State) (w : ℕ) where
 
 -- ---- the seat after a push
 
-pub pay_keeps : (g : Game) (s : Seat) (owed : List Bool) (v : ℕ) → IsSeat g s → s.holding ≡ false → owed ≡ slice_set s.owed v false
+pub pay_keeps : (g : Game) (s : CoreWorker) (owed : List Bool) (v : ℕ) → IsSeat g s → s.holding ≡ false → owed ≡ slice_set s.owed v false
     → IsSeat g (record { holding = s.holding; turn = s.turn; owed = owed })
 pay_keeps g s owed v is h e = record {
   turn = is.turn;
@@ -247,7 +247,7 @@ pay_keeps g s owed v is h e = record {
 
 -- ---- the seat after a raise
 
-pub release_keeps : (g : Game) (s : Seat) → IsSeat g s → IsSeat g (record { holding = false; turn = s.turn; owed = s.owed })
+pub release_keeps : (g : Game) (s : CoreWorker) → IsSeat g s → IsSeat g (record { holding = false; turn = s.turn; owed = s.owed })
 release_keeps g s is = record {
   turn = is.turn;
   game = is.game;
@@ -256,22 +256,22 @@ release_keeps g s is = record {
   free = λ t. absurd (true≢false (sym t));
 }
 
-pub owing_predecessors : (g : Game) (v : ℕ) (s : Seat) → IsSeat g s → s.holding ≡ false → AreOwed (predecessors g v) s.owed
+pub owing_predecessors : (g : Game) (v : ℕ) (s : CoreWorker) → IsSeat g s → s.holding ≡ false → AreOwed (predecessors g v) s.owed
     → worker_of s ≡ owing (predecessors g v)
 unfolding predecessors
 owing_predecessors g v s is h are = worker_free s h ∙ ap owing
     (owed_members (λ u. list_any (λ t. t == v) (successors_at (vertex g u))) (length g.vertices) s.owed is.long are)
 
-pub read_idle : (s : Seat) → s.holding ≡ false → members s.owed ≡ [] → worker_of s ≡ Idle
+pub read_idle : (s : CoreWorker) → s.holding ≡ false → members s.owed ≡ [] → worker_of s ≡ Idle
 read_idle s h e = worker_free s h ∙ ap owing e
 
 -- ---- at the start
 
-last_idle : (seats : List Seat) (n : ℕ) (x : Seat) → map worker_of seats ≡ replicate n Idle → worker_of x ≡ Idle
+last_idle : (seats : List CoreWorker) (n : ℕ) (x : CoreWorker) → map worker_of seats ≡ replicate n Idle → worker_of x ≡ Idle
     → map worker_of (seats ++ x ∷ []) ≡ replicate (suc n) Idle
 last_idle seats n x e i = more seats ∙ (ap₂ (λ ys y. ys ++ y ∷ []) e i ∙ twice n)
   where
-    more : (seats : List Seat) → map worker_of (seats ++ x ∷ []) ≡ map worker_of seats ++ worker_of x ∷ []
+    more : (seats : List CoreWorker) → map worker_of (seats ++ x ∷ []) ≡ map worker_of seats ++ worker_of x ∷ []
     more [] = refl
     more (y ∷ ys) = ap (λ zs. worker_of y ∷ zs) (more ys)
 
@@ -279,26 +279,26 @@ last_idle seats n x e i = more seats ∙ (ap₂ (λ ys y. ys ++ y ∷ []) e i �
     twice zero = refl
     twice (suc n) = ap (λ zs. Idle ∷ zs) (twice n)
 
-last_there : (seats : List Seat) (x : Seat) (w : ℕ) (y : Seat) → slice_get (seats ++ x ∷ []) w ≡ Some y → (slice_get seats w ≡ Some y) ⊎ (x ≡ y)
+last_there : (seats : List CoreWorker) (x : CoreWorker) (w : ℕ) (y : CoreWorker) → slice_get (seats ++ x ∷ []) w ≡ Some y → (slice_get seats w ≡ Some y) ⊎ (x ≡ y)
 last_there [] x zero y e = inr (same_Some x y e)
 last_there [] x (suc w) y e = absurd (none-some y e)
 last_there (z ∷ zs) x zero y e = inl e
 last_there (z ∷ zs) x (suc w) y e = last_there zs x w y e
 
-pub one_more_idle : (g : Game) (n m : ℕ) (seats items : List Seat) (x : Seat) → AreIdle g n seats → IsSeat g x → worker_of x ≡ Idle → items ≡ seats ++ x ∷ []
+pub one_more_idle : (g : Game) (n m : ℕ) (seats items : List CoreWorker) (x : CoreWorker) → AreIdle g n seats → IsSeat g x → worker_of x ≡ Idle → items ≡ seats ++ x ∷ []
     → m ≡ suc n → AreIdle g m items
 one_more_idle g n m seats items x are is idle e k = record {
-  each = λ w y at. elim (last_there seats x w y (ap (λ (zs : List Seat). slice_get zs w) (sym e) ∙ at))
+  each = λ w y at. elim (last_there seats x w y (ap (λ (zs : List CoreWorker). slice_get zs w) (sym e) ∙ at))
       [ inl h ↦ are.each w y h | inr q ↦ subst (IsSeat g) q is ];
   idle = ap (map worker_of) e ∙ (last_idle seats n x are.idle idle ∙ ap (λ (n : ℕ). replicate n Idle) (sym k));
 }
 
 -- ---- whether all is quiet
 
-pub one_busy : (seats : List Seat) (i : ℕ) (x : Seat) → i < length seats → slice_index_or seats i x ≡ x → (worker_of x ≡ Idle → ⊥)
+pub one_busy : (seats : List CoreWorker) (i : ℕ) (x : CoreWorker) → i < length seats → slice_index_or seats i x ≡ x → (worker_of x ≡ Idle → ⊥)
     → list_all is_idle (map worker_of seats) ≡ true → ⊥
 one_busy seats i x h e busy all = busy (idle_is (worker_of x)
-    (all_idle (map worker_of seats) i (worker_of x) all (worker_there seats i x (slice_get-get_or seats i x h ∙ ap (λ (s : Seat). Some s) e))))
+    (all_idle (map worker_of seats) i (worker_of x) all (worker_there seats i x (slice_get-get_or seats i x h ∙ ap (λ (s : CoreWorker). Some s) e))))
   where
     idle_is : (y : Worker) → is_idle y ≡ true → y ≡ Idle
     idle_is Idle q = refl

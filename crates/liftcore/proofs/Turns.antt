@@ -7,11 +7,11 @@ use Rattle.std.proofs.lemmas.Option.{slice_get_within}
 use Rattle.std.specs.List.{AllByRecursion}
 use Rattle.game.specs.Game.{Game, Vertex, vertex}
 use Rattle.game.specs.Predecessors.{successors_at}
-use Rattle.progress.specs.Measure.{IsMeasure, Measure, Top}
-use Rattle.progress.specs.Progs.{IsDemandOf}
-use Rattle.progress.specs.Tables.{LiesBelow}
-use Rattle.progress.proofs.Demands.{EachBelow, demand_below}
-use Rattle.progress.proofs.Lists.{all_from}
+use Rattle.measures.specs.Measure.{IsMeasure, Measure, Top}
+use Rattle.measures.specs.Progs.{IsDemandOf}
+use Rattle.measures.specs.Tables.{LiesBelow}
+use Rattle.measures.proofs.Demands.{EachBelow, demand_below}
+use Rattle.measures.proofs.Lists.{all_from}
 use Rattle.game.proofs.Placing.{successors_of as successors_are}
 use Rattle.liftcore.specs.Reading.{AreRead, IsReading, SuccessorReading, successors_read, values_of}
 

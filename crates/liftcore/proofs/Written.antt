@@ -5,8 +5,8 @@ use Rattle.std.specs.Prelude.{if◌then◌else◌}
 use Rattle.std.specs.List.{flat_map, join_with_byte, range_with_len}
 use Rattle.std.proofs.Math.Seq.{drop-cons}
 use Rattle.std.proofs.Math.ListN.{drop_of_length-le}
-use Rattle.progress.specs.Measure.{Measure, Top}
-use Rattle.progress.specs.Progress.{value_at}
+use Rattle.measures.specs.Measure.{Measure, Top}
+use Rattle.measures.specs.Progress.{value_at}
 use Rattle.liftcore.specs.Marks.{members}
 use Rattle.liftcore.specs.Replay.{listed, value_line, value_lines}
 

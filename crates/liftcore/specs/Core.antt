@@ -2,9 +2,9 @@
 use Rattle.std.specs.Prelude.{ℕ, Bool, true, false, ◌&&◌, List, [], ◌∷◌, length, filter, find, not, replicate, Option, option_map, ◌==◌, nat_lt, if◌then◌else◌}
 use Rattle.std.specs.List.{list_all, range_with_len}
 use Rattle.game.specs.Game.{Game}
-use Rattle.progress.specs.Measure.{Measure}
-use Rattle.progress.specs.Progress.{opening}
-use Rattle.progress.specs.Tables.{GameTable}
+use Rattle.measures.specs.Measure.{Measure}
+use Rattle.measures.specs.Progress.{opening}
+use Rattle.measures.specs.Tables.{GameTable}
 
 -- the value that a worker read at a vertex
 pub record Note : Type 0 where

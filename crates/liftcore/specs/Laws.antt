@@ -1,10 +1,10 @@
 -- What holds of all runs of the core, and of all texts of schedules.
 use Rattle.std.specs.Prelude.{◌≡◌, ℕ, Bool, List, IsTrue, ◌*◌, ◌≤◌, ◌⊎◌, count_by, length}
 use Rattle.game.specs.Game.{Game, IsGame}
-use Rattle.progress.specs.Lifting.{height}
-use Rattle.progress.specs.Measure.{IsAtMost}
-use Rattle.progress.specs.Progress.{IsProgress}
-use Rattle.progress.specs.Tables.{IsPlain, IsSettled}
+use Rattle.measures.specs.Lifting.{height}
+use Rattle.measures.specs.Measure.{IsAtMost}
+use Rattle.measures.specs.Progress.{IsProgress}
+use Rattle.measures.specs.Tables.{IsPlain, IsSettled}
 use Rattle.liftcore.specs.Core.{Core, starting_core, is_quiet}
 use Rattle.liftcore.specs.Schedule.{HasScheduleFault, IsSchedule}
 use Rattle.liftcore.specs.Step.{RaisingSteps, Step, Steps, value_in}

@@ -2,8 +2,8 @@
 use Rattle.std.specs.Prelude.{◌≡◌, ◌<◌, ◌≤◌, ℕ, Bool, false, true, List, length, slice_index, slice_index_or, take}
 use Rattle.game.specs.Game.{Game, IsGame, vertex}
 use Rattle.game.specs.Predecessors.{successors_at}
-use Rattle.progress.specs.Measure.{Measure, Top}
-use Rattle.progress.specs.Tables.{LiesBelow}
+use Rattle.measures.specs.Measure.{Measure, Top}
+use Rattle.measures.specs.Tables.{LiesBelow}
 
 -- Whether the vertex's successors were read, one after another, and which values; past the last successor all is free.
 pub record SuccessorReading : Type 0 where

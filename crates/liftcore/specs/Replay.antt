@@ -2,8 +2,8 @@
 use Rattle.std.specs.Prelude.{ℕ, ◌+◌, Bool, List, [], ◌∷◌, ◌++◌, map, codes, decimal, if◌then◌else◌}
 use Rattle.std.specs.List.{join_with_byte}
 use Rattle.text.specs.Pieces.{line_end}
-use Rattle.progress.specs.Measure.{Measure}
-use Rattle.progress.specs.MeasureText.{measure_text}
+use Rattle.measures.specs.Measure.{Measure}
+use Rattle.measures.specs.MeasureText.{measure_text}
 use Rattle.liftcore.specs.Core.{Core, is_quiet}
 
 -- `events E done D skipped S`

@@ -4,8 +4,8 @@ use Rattle.std.specs.List.{AllZip}
 use Rattle.std.specs.Ordering.{is_lt}
 use Rattle.game.specs.Game.{Vertex, vertex}
 use Rattle.game.specs.Predecessors.{predecessors}
-use Rattle.progress.specs.Measure.{Measure, measure_cmp}
-use Rattle.progress.specs.Progress.{IsLift, value_at}
+use Rattle.measures.specs.Measure.{Measure, measure_cmp}
+use Rattle.measures.specs.Progress.{IsLift, value_at}
 use Rattle.game.specs.NumberSet.{with_number}
 use Rattle.liftcore.specs.Core.{Core, Note, Worker, Idle, Holding, Owing, noted, owing, with_note, without}
 use Rattle.liftcore.specs.declared.event.Event.{Event}

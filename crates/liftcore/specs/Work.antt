@@ -2,10 +2,10 @@
 use Rattle.std.specs.Prelude.{◌≡◌, ◌<◌, ◌==◌, ℕ, Bool, true, false, List, Contains, None, Some, length, slice_index, slice_index_or}
 use Rattle.std.specs.List.{AllZip, list_any}
 use Rattle.game.specs.Game.{Game, Vertex, vertex}
-use Rattle.progress.specs.Measure.{Measure}
+use Rattle.measures.specs.Measure.{Measure}
 use Rattle.liftcore.specs.Core.{Holding, Note, Owing, Worker, noted}
 use Rattle.liftcore.specs.Reading.{successors_read}
-use Rattle.liftcore.specs.declared.seat.Seat.{Seat}
+use Rattle.liftcore.specs.declared.seat.CoreWorker.{CoreWorker}
 
 -- it holds a vertex that has v among its successors, and hasn't read v
 pub record CanRead (g : Game) (worker : Worker) (v : ℕ) : Type 0 where
@@ -34,7 +34,7 @@ pub record Owes (worker : Worker) (v : ℕ) : Type 0 where
   pub among : Contains owed v
 
 -- at this place stands v, which isn't read
-pub record IsUnread (s : Seat) (v place : ℕ) : Type 0 where
+pub record IsUnread (s : CoreWorker) (v place : ℕ) : Type 0 where
   pub holding : s.holding ≡ true
   pub inside : place < length (successors_read s.turn)
   pub here : slice_index (successors_read s.turn) place ≡ v

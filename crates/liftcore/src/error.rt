@@ -19,8 +19,7 @@ impl From<Memory> for CoreError {
 
     ghost from_gives = { λ _ e. e ≡ errors.Memory };
 
-    fn from(error: Memory) -> Self {
-        let Memory = error;
+    fn from(_: Memory) -> Self {
         CoreError::Memory
     }
 }

@@ -4,14 +4,14 @@ ghost use Rattle.std.specs.Prelude.{◌≡◌, ◌≢◌, ℕ, List, [], ◌∷�
 ghost use Rattle.text.specs.Tokens as token;
 ghost use Rattle.liftcore.specs.Begun.{IsBegunLine, IsUnspaced, IsValue};
 ghost use Rattle.liftcore.specs.Scan as at;
-ghost use Rattle.liftcore.specs.declared.line.Part.TheVariants as part;
+ghost use Rattle.liftcore.specs.declared.line.LinePart.TheVariants as part;
 
 use crate::event::Event;
 use arrayvec::ArrayVec;
 
 /// What is being read of a line.
 #[derive(Clone, Copy)]
-pub(crate) enum Part {
+pub(crate) enum LinePart {
     /// The word.
     Word,
     /// The worker: its digits so far are this number, if there are some.
@@ -26,7 +26,7 @@ pub(crate) enum Part {
 #[derive(Drop)]
 pub(crate) struct Line {
     pub(crate) word: ArrayVec<u8, 5>,
-    pub(crate) part: Part,
+    pub(crate) part: LinePart,
 }
 
 // The number of the digits and one more, where they are one. A number that is too great for its type is read as the greatest one.
@@ -49,49 +49,49 @@ fn with_digit(number: Option<u32>, byte: u8) -> Option<u32>
 }
 
 // What is being read behind one more byte of a word.
-fn after_word(word: &mut ArrayVec<u8, 5>, byte: u8) -> Part
+fn after_word(word: &mut ArrayVec<u8, 5>, byte: u8) -> LinePart
     ensures { (line : List ℕ) → (line ≡ word.old.items) → IsUnspaced word.old.items → IsBegunLine (line ++ byte ∷ []) word.new.items result }
 {
     if byte == b' ' {
-        return Part::Worker { worker: None };
+        return LinePart::Worker { worker: None };
     }
     match word.try_push(byte) {
-        Ok(()) => Part::Word,
-        Err(_) => Part::Faulty,
+        Ok(()) => LinePart::Word,
+        Err(_) => LinePart::Faulty,
     }
 }
 
-// The same of a worker.
-fn after_worker(worker: Option<u32>, byte: u8) -> Part
+// What is being read behind one more byte of a worker.
+fn after_worker(worker: Option<u32>, byte: u8) -> LinePart
     ensures { (line word : List ℕ) → IsBegunLine line word (part.Worker worker) → IsBegunLine (line ++ byte ∷ []) word result }
 {
     if byte == b' ' {
         return match worker {
-            Some(worker) => Part::Vertex {
+            Some(worker) => LinePart::Vertex {
                 worker,
                 vertex: None,
             },
-            None => Part::Faulty,
+            None => LinePart::Faulty,
         };
     }
     match with_digit(worker, byte) {
-        Some(number) => Part::Worker {
+        Some(number) => LinePart::Worker {
             worker: Some(number),
         },
-        None => Part::Faulty,
+        None => LinePart::Faulty,
     }
 }
 
-// The same of a vertex.
-fn after_vertex(worker: u32, vertex: Option<u32>, byte: u8) -> Part
+// What is being read behind one more byte of a vertex.
+fn after_vertex(worker: u32, vertex: Option<u32>, byte: u8) -> LinePart
     ensures { (line word : List ℕ) → IsBegunLine line word (part.Vertex worker vertex) → IsBegunLine (line ++ byte ∷ []) word result }
 {
     match with_digit(vertex, byte) {
-        Some(number) => Part::Vertex {
+        Some(number) => LinePart::Vertex {
             worker,
             vertex: Some(number),
         },
-        None => Part::Faulty,
+        None => LinePart::Faulty,
     }
 }
 
@@ -122,7 +122,7 @@ fn event_with(word: &[u8], worker: usize, vertex: u32) -> Option<Event>
     }
 }
 
-// The same where a vertex stands behind the worker, if it does.
+// The event of a word with a worker and a vertex, where a vertex stands behind the worker.
 fn event_of_vertex(word: &[u8], worker: u32, vertex: Option<u32>) -> Option<Event>
     ensures { (line : List ℕ) → IsBegunLine line word.now (part.Vertex worker vertex) → at.event_at token.whole_number line ≡ result }
 {
@@ -136,7 +136,7 @@ impl Line {
     {
         Line {
             word: ArrayVec::new(),
-            part: Part::Word,
+            part: LinePart::Word,
         }
     }
 
@@ -145,10 +145,10 @@ impl Line {
         ensures { (line : List ℕ) → IsBegunLine line self.now.word.items self.now.part → MatchBool result (line ≡ []) (line ≢ []) }
     {
         match self.part {
-            Part::Word => self.word.is_empty(),
-            Part::Worker { .. } => false,
-            Part::Vertex { .. } => false,
-            Part::Faulty => false,
+            LinePart::Word => self.word.is_empty(),
+            LinePart::Worker { .. } => false,
+            LinePart::Vertex { .. } => false,
+            LinePart::Faulty => false,
         }
     }
 
@@ -157,10 +157,10 @@ impl Line {
         ensures { (line : List ℕ) → IsBegunLine line self.old.word.items self.old.part → IsBegunLine (line ++ byte ∷ []) self.new.word.items self.new.part }
     {
         match self.part {
-            Part::Word => self.part = after_word(&mut self.word, byte),
-            Part::Worker { worker } => self.part = after_worker(worker, byte),
-            Part::Vertex { worker, vertex } => self.part = after_vertex(worker, vertex, byte),
-            Part::Faulty => {}
+            LinePart::Word => self.part = after_word(&mut self.word, byte),
+            LinePart::Worker { worker } => self.part = after_worker(worker, byte),
+            LinePart::Vertex { worker, vertex } => self.part = after_vertex(worker, vertex, byte),
+            LinePart::Faulty => {}
         }
     }
 
@@ -170,10 +170,10 @@ impl Line {
     {
         let word = self.word.as_slice();
         match self.part {
-            Part::Worker { worker } => event_of_worker(word, worker),
-            Part::Vertex { worker, vertex } => event_of_vertex(word, worker, vertex),
-            Part::Word => None,
-            Part::Faulty => None,
+            LinePart::Worker { worker } => event_of_worker(word, worker),
+            LinePart::Vertex { worker, vertex } => event_of_vertex(word, worker, vertex),
+            LinePart::Word => None,
+            LinePart::Faulty => None,
         }
     }
 }

@@ -5,16 +5,16 @@ ghost use Rattle.liftcore.specs.Core.{is_quiet as is_quiet_core, starting_core};
 ghost use Rattle.liftcore.specs.Marks.{members};
 ghost use Rattle.liftcore.specs.Runs.{Comes, is_done};
 ghost use Rattle.liftcore.specs.Step.{Step};
-ghost use Rattle.progress.specs.Progress.{value_at};
-ghost use Rattle.progress.specs.Tables.{IsPlain, IsSettled, LiesBelow};
+ghost use Rattle.measures.specs.Progress.{value_at};
+ghost use Rattle.measures.specs.Tables.{IsPlain, IsSettled, LiesBelow};
 
 use crate::error::CoreError;
-use crate::event::{Event, Outcome, Tally};
-use crate::marks::Marks;
-use crate::state::State;
+use crate::event::{Event, EventCounts, Outcome};
+use crate::marks::VertexSet;
+use crate::state::CoreParts;
 use game::graph::Game;
-use progress::measure::Measure;
-use progress::settle::is_settled;
+use measures::measure::Measure;
+use measures::settle::is_settled;
 use std::alloc::Global;
 use std::marker::Model;
 
@@ -22,7 +22,7 @@ use std::marker::Model;
 #[derive(Drop)]
 pub struct Core<'a> {
     game: &'a Game,
-    state: State,
+    state: CoreParts,
 }
 
 impl<'a> Model for Core<'a> {
@@ -48,7 +48,7 @@ impl<'a> Core<'a> {
     {
         Ok(Core {
             game,
-            state: State::new(alloc, game, workers)?,
+            state: CoreParts::new(alloc, game, workers)?,
         })
     }
 
@@ -72,7 +72,7 @@ impl<'a> Core<'a> {
     }
 
     /// Does events in their order, and tells how many were done and how many skipped.
-    pub fn follow(&mut self, events: &[Event]) -> Tally
+    pub fn follow(&mut self, events: &[Event]) -> EventCounts
         ensures comes { Comes self.old events.now result.done result.skipped self.new }
         ensures all { result.done + result.skipped ≡ length events.now }
     {
@@ -84,7 +84,7 @@ impl<'a> Core<'a> {
                 Outcome::Skipped => skipped += 1,
             }
         }
-        Tally { done, skipped }
+        EventCounts { done, skipped }
     }
 
     /// How many vertices the game has.
@@ -95,7 +95,7 @@ impl<'a> Core<'a> {
     }
 
     /// The pending vertices.
-    pub(crate) fn pending(&self) -> &Marks
+    pub(crate) fn pending(&self) -> &VertexSet
         ensures vertices { length result.now ≡ length self.now.table.game.vertices }
         ensures pending { members result.now ≡ self.now.pending }
     {

@@ -8,12 +8,12 @@ use std::marker::Model;
 
 /// A set of the vertices of a game: a mark for each vertex.
 #[derive(Drop)]
-pub struct Marks {
+pub struct VertexSet {
     marks: Vec<bool>,
     count: usize,
 }
 
-impl Model for Marks {
+impl Model for VertexSet {
     ghost use Rattle.std.specs.Prelude.{◌≡◌, Bool, List, count_by};
 
     ghost Value = { List Bool };
@@ -23,12 +23,12 @@ impl Model for Marks {
     ghost invariant = { λ m. m.count ≡ count_by (λ b. b) m.marks.items };
 }
 
-impl Marks {
+impl VertexSet {
     /// None of so many vertices.
     pub fn none(alloc: Global, vertices: usize) -> Result<Self, AllocError>
         ensures { IfOk result (λ m. m ≡ replicate vertices false) }
     {
-        Ok(Marks {
+        Ok(VertexSet {
             marks: vec![in alloc; false; vertices]?,
             count: 0,
         })
@@ -38,7 +38,7 @@ impl Marks {
     pub fn all(alloc: Global, vertices: usize) -> Result<Self, AllocError>
         ensures { IfOk result (λ m. m ≡ replicate vertices true) }
     {
-        Ok(Marks {
+        Ok(VertexSet {
             marks: vec![in alloc; true; vertices]?,
             count: vertices,
         })

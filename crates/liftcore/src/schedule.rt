@@ -140,10 +140,8 @@ impl Intake {
         if self.line.is_empty() {
             return Ok(self.events);
         }
-        match self.end_line() {
-            Ok(()) => Ok(self.events),
-            Err(error) => Err(error),
-        }
+        self.end_line()?;
+        Ok(self.events)
     }
 }
 

@@ -7,24 +7,24 @@ ghost use Rattle.liftcore.specs.Core.{Holding, Idle, with_note};
 ghost use Rattle.liftcore.specs.Marks.{members};
 ghost use Rattle.liftcore.specs.Seats.{IsSeat, notes_of, worker_of};
 ghost use Rattle.liftcore.specs.Work.{AreOwed, CanRaise, CanRead, IsUnread, Owes};
-ghost use Rattle.progress.specs.Tables.{LiesBelow};
+ghost use Rattle.measures.specs.Tables.{LiesBelow};
 
-use crate::marks::Marks;
+use crate::marks::VertexSet;
 use crate::turn::Turn;
 use game::graph::Game;
-use progress::measure::Measure;
+use measures::measure::Measure;
 use std::alloc::{AllocError, Global};
 
 /// A worker: it holds the vertex of its turn, or owes the marked vertices, and is idle where it owes none. Its memory is
 /// taken once.
 #[derive(Drop)]
-pub(crate) struct Seat {
+pub(crate) struct CoreWorker {
     pub(crate) holding: bool,
     pub(crate) turn: Turn,
-    pub(crate) owed: Marks,
+    pub(crate) owed: VertexSet,
 }
 
-impl Seat {
+impl CoreWorker {
     /// An idle worker.
     pub(crate) fn new(alloc: Global, game: &Game) -> Result<Self, AllocError>
         ensures seat { IfOk result (λ s. IsSeat game.now s) }
@@ -32,10 +32,10 @@ impl Seat {
     {
         let turn = Turn::new(alloc, game)?;
         turn.known();
-        Ok(Seat {
+        Ok(CoreWorker {
             holding: false,
             turn,
-            owed: Marks::none(alloc, game.vertices() as usize)?,
+            owed: VertexSet::none(alloc, game.vertices() as usize)?,
         })
     }
 

@@ -9,43 +9,43 @@ ghost use Rattle.liftcore.specs.declared.event.Event.TheVariants as events;
 
 use crate::error::CoreError;
 use crate::event::Event;
-use crate::marks::Marks;
-use crate::seat::Seat;
+use crate::marks::VertexSet;
+use crate::seat::CoreWorker;
 use game::graph::Game;
 use game::predecessors::Predecessors;
-use progress::table::{PlainTable, opening};
+use measures::table::{PlainTable, opening};
 use std::alloc::{AllocError, Global};
 
 /// The parts of a core.
 #[derive(Drop)]
-pub(crate) struct State {
+pub(crate) struct CoreParts {
     pub(crate) table: PlainTable,
     pub(crate) predecessors: Predecessors,
-    pub(crate) pending: Marks,
-    pub(crate) seats: Vec<Seat>,
+    pub(crate) pending: VertexSet,
+    pub(crate) seats: Vec<CoreWorker>,
 }
 
 // So many idle workers.
-fn idle_seats(alloc: Global, game: &Game, workers: usize) -> Result<Vec<Seat>, AllocError>
+fn idle_seats(alloc: Global, game: &Game, workers: usize) -> Result<Vec<CoreWorker>, AllocError>
     ensures { IfOk result (λ seats. AreIdle game.now workers seats.items) }
 {
     let mut seats = Vec::with_capacity(alloc, workers)?;
     for _ in 0..workers {
-        seats.push(Seat::new(alloc, game)?)?;
+        seats.push(CoreWorker::new(alloc, game)?)?;
     }
     Ok(seats)
 }
 
-impl State {
+impl CoreParts {
     /// The state at the start, with the memory for all events.
     pub(crate) fn new(alloc: Global, game: &Game, workers: usize) -> Result<Self, CoreError>
         ensures state { IfOk result (λ s. IsState game.now s) }
         ensures start { IfOk result (λ s. core_of s ≡ starting_core game.now workers) }
     {
-        Ok(State {
+        Ok(CoreParts {
             table: opening(alloc, game)?,
             predecessors: Predecessors::of(alloc, game)?,
-            pending: Marks::all(alloc, game.vertices() as usize)?,
+            pending: VertexSet::all(alloc, game.vertices() as usize)?,
             seats: idle_seats(alloc, game, workers)?,
         })
     }

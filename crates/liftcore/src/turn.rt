@@ -4,12 +4,12 @@ ghost use Rattle.std.specs.Prelude.{◌≡◌, ◌<◌, ◌≤◌, ◌+◌, ◌�
 ghost use Rattle.game.specs.Game.{vertex as vertex_at};
 ghost use Rattle.game.specs.Predecessors.{successors_at};
 ghost use Rattle.liftcore.specs.Reading.{AreRead, BeginsTurn, IsReadAt, IsReading, successors_read, values_of};
-ghost use Rattle.progress.specs.Progs.{IsDemandOf};
-ghost use Rattle.progress.specs.Tables.{LiesBelow};
+ghost use Rattle.measures.specs.Progs.{IsDemandOf};
+ghost use Rattle.measures.specs.Tables.{LiesBelow};
 
 use game::graph::Game;
-use progress::measure::Measure;
-use progress::progs::demand;
+use measures::measure::Measure;
+use measures::progs::demand;
 use std::alloc::{AllocError, Global};
 use std::marker::Model;
 use std::snapshot::Snapshot;
@@ -88,6 +88,7 @@ impl Turn {
     pub fn known(&self)
         ensures { IsReading self.now }
     {
+        // For the proof: reading a field makes the invariant known.
         let _ = &self.marks;
     }
 

@@ -4,18 +4,18 @@ ghost use Rattle.std.specs.Prelude.{◌≡◌, ◌<◌, ◌^◌, ◌+◌, ◌↔
 ghost use Rattle.liftcore.specs.Core.{is_quiet};
 ghost use Rattle.liftcore.specs.Marks.{members};
 ghost use Rattle.liftcore.specs.Replay.{end_lines, events_line, listed, replay_text, value_line, value_lines, yes_or_no};
-ghost use Rattle.progress.specs.Tables.{IsSettled};
+ghost use Rattle.measures.specs.Tables.{IsSettled};
 ghost use Rattle.text.specs.Wrote.{Wrote};
 
-use crate::event::Tally;
+use crate::event::EventCounts;
 use crate::machine::Core;
-use crate::marks::Marks;
-use progress::measure::Measure;
-use progress::writer::put_measure;
+use crate::marks::VertexSet;
+use measures::measure::Measure;
+use measures::writer::put_measure;
 use text::sink::Sink;
 use text::{Piece, WriteFault, put, put_number, put_pieces};
 
-fn put_events<W: Sink>(tally: Tally, writer: &mut W) -> Result<(), WriteFault>
+fn put_events<W: Sink>(tally: EventCounts, writer: &mut W) -> Result<(), WriteFault>
     requires { tally.done + tally.skipped < 2 ^ 64 }
     ensures { Wrote (W.taken writer.old) (W.taken writer.new) result (events_line tally.done tally.skipped) }
 {
@@ -61,7 +61,7 @@ fn separator(first: bool) -> &'static [u8]
 }
 
 // Writes those of so many vertices that are marked.
-fn put_members<W: Sink>(marks: &Marks, vertices: u32, writer: &mut W) -> Result<(), WriteFault>
+fn put_members<W: Sink>(marks: &VertexSet, vertices: u32, writer: &mut W) -> Result<(), WriteFault>
     requires { vertices ≡ length marks.now }
     ensures { Wrote (W.taken writer.old) (W.taken writer.new) result (listed (members marks.now)) }
 {
@@ -99,7 +99,7 @@ fn put_end<W: Sink>(settled: bool, quiet: bool, writer: &mut W) -> Result<(), Wr
 // Writes the whole text, where it is known whether the core is settled and quiet.
 fn put_replay<W: Sink>(
     core: &Core<'_>,
-    tally: Tally,
+    tally: EventCounts,
     settled: bool,
     quiet: bool,
     writer: &mut W,
@@ -122,7 +122,7 @@ fn put_replay<W: Sink>(
 /// After a fault the writer holds a beginning of the text.
 pub fn write_replay<W: Sink>(
     core: &Core<'_>,
-    tally: Tally,
+    tally: EventCounts,
     writer: &mut W,
 ) -> Result<(), WriteFault>
     requires { tally.done + tally.skipped < 2 ^ 64 }

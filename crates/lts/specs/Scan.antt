@@ -5,11 +5,11 @@ use Rattle.text.specs.Stream.{line_of, after_line}
 use Rattle.systems.specs.declared.limits.TheConstants.{LONGEST_LABEL}
 use Rattle.systems.specs.System.{Arrow}
 use Rattle.lts.specs.declared.scan.Announced.{Announced}
-use Rattle.lts.specs.declared.scan.Spelled.{Spelled}
+use Rattle.lts.specs.declared.scan.TransitionLine.{TransitionLine}
 use Rattle.lts.specs.declared.scan.Ends.{Ends}
 
 -- the transition that a line says
-abbrev pub said : Spelled → Arrow
+abbrev pub said : TransitionLine → Arrow
 said s = record { source = s.source; label = s.label.now; target = s.target }
 
 -- the three numbers of a header, and its end

@@ -50,8 +50,7 @@ impl From<Memory> for AutError {
 
     ghost from_gives = { λ _ e. e ≡ errors.Memory };
 
-    fn from(error: Memory) -> Self {
-        let Memory = error;
+    fn from(_: Memory) -> Self {
         AutError::Memory
     }
 }

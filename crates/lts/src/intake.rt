@@ -8,7 +8,7 @@ ghost use Rattle.lts.specs.Gathered.{HasLabel, Extends, Gathers};
 
 use crate::error::Memory;
 use crate::recent::Recent;
-use crate::scan::Spelled;
+use crate::scan::TransitionLine;
 use indexmap::IndexSet;
 use std::alloc::Global;
 use std::hash::BuildHasher;
@@ -16,7 +16,7 @@ use systems::system::Transition;
 
 /// The transitions so far, and the labels, each once and found by its hash.
 #[derive(Drop)]
-pub(crate) struct Rows<S: BuildHasher> {
+pub(crate) struct ReadTransitions<S: BuildHasher> {
     pub labels: IndexSet<Vec<u8>, S>,
     pub transitions: Vec<Transition>,
     recent: Recent,
@@ -43,13 +43,13 @@ fn number_of<S: BuildHasher>(
     Ok(number)
 }
 
-impl<S: BuildHasher> Rows<S> {
-    pub(crate) fn new(alloc: Global, hasher: S) -> Rows<S>
+impl<S: BuildHasher> ReadTransitions<S> {
+    pub(crate) fn new(alloc: Global, hasher: S) -> ReadTransitions<S>
         ensures empty { Gathers (texts result.labels.keys) result.transitions.items [] }
         ensures len { length result.labels.keys ≡ 0 }
         ensures count { length result.transitions.items ≡ 0 }
     {
-        Rows {
+        ReadTransitions {
             labels: IndexSet::with_hasher(alloc, hasher),
             transitions: Vec::new(alloc),
             recent: Recent::new(),
@@ -57,7 +57,7 @@ impl<S: BuildHasher> Rows<S> {
     }
 
     /// Adds a transition at the end.
-    pub(crate) fn add(&mut self, alloc: Global, spelled: Spelled<'_>) -> Result<(), Memory>
+    pub(crate) fn add(&mut self, alloc: Global, spelled: TransitionLine<'_>) -> Result<(), Memory>
         requires { length self.old.labels.keys < 2 ^ 32 - 1 }
         ensures added { OnOk result ((arrows : List Arrow) → Gathers (texts self.old.labels.keys) self.old.transitions.items arrows
             → Gathers (texts self.new.labels.keys) self.new.transitions.items (arrows ++ said spelled.entry ∷ [])) }

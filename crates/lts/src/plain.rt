@@ -8,7 +8,7 @@ use text::scan::number_here;
 
 /// What such a line says, and how many bytes it has with its LF.
 #[derive(Clone, Copy)]
-pub(crate) struct PlainLine<'a> {
+pub(crate) struct PlainTransitionLine<'a> {
     pub source: u32,
     pub label: &'a [u8],
     pub target: u32,
@@ -42,7 +42,7 @@ fn label(bytes: &[u8]) -> (&[u8], &[u8])
 }
 
 /// The plain line in front of the block, if one stands there whole.
-pub(crate) fn plain_line(block: &[u8]) -> Option<PlainLine<'_>>
+pub(crate) fn plain_line(block: &[u8]) -> Option<PlainTransitionLine<'_>>
     ensures plain { IfSome result (λ line. IsPlainThen line.source line.label.now line.target block.now (drop line.len block.now)) }
     ensures within { IfSome result (λ line. line.len ≤ length block.now) }
 {
@@ -53,7 +53,7 @@ pub(crate) fn plain_line(block: &[u8]) -> Option<PlainLine<'_>>
     let rest = past(rest, b"\",")?;
     let (target, rest) = number_here(rest)?;
     let rest = past(rest, b")\n")?;
-    Some(PlainLine {
+    Some(PlainTransitionLine {
         source,
         label,
         target,

@@ -16,8 +16,8 @@ ghost use Rattle.lts.specs.Left.{RefusesAut, IsWithinLimits, BeginsSystem, Arrow
 
 use crate::assemble::assemble;
 use crate::error::{AutError, AutFault};
-use crate::intake::Rows;
-use crate::scan::{Announced, Kept, Spelled, header, transition};
+use crate::intake::ReadTransitions;
+use crate::scan::{Announced, Kept, TransitionLine, header, transition};
 use std::alloc::Global;
 use std::hash::BuildHasher;
 use std::mem;
@@ -72,7 +72,7 @@ fn is_label(bytes: &[u8]) -> bool
 }
 
 // What is wrong with the transition in a system of so many states, if anything is.
-fn row_fault(spelled: Spelled<'_>, states: u32) -> Option<AutFault>
+fn row_fault(spelled: TransitionLine<'_>, states: u32) -> Option<AutFault>
     ensures none { IfNone result (IsArrow states (said spelled.entry)) }
     ensures some { IfSome result (IsRowFault states (said spelled.entry)) }
 {
@@ -92,7 +92,7 @@ fn read_row<B: Blocks, S: BuildHasher>(
     kept: &mut Kept,
     found: Announced,
     good: u32,
-    rows: &mut Rows<S>,
+    rows: &mut ReadTransitions<S>,
 ) -> Result<(), AutError>
     requires due { good < found.transitions }
     requires admitted { IsWithinLimits found }
@@ -115,7 +115,7 @@ fn read_row<B: Blocks, S: BuildHasher>(
         let fault = AutFault::BadLine;
         return Err(AutError::Fault { fault, line });
     };
-    let spelled = Spelled {
+    let spelled = TransitionLine {
         source: ends.source,
         label: &kept.label,
         target: ends.target,
@@ -147,7 +147,7 @@ fn read_rows<B: Blocks, S: BuildHasher>(
     reader: &mut B,
     kept: &mut Kept,
     found: Announced,
-    rows: &mut Rows<S>,
+    rows: &mut ReadTransitions<S>,
 ) -> Result<(), AutError>
     requires admitted { IsWithinLimits found }
     requires none { Gathers (texts rows.old.labels.keys) rows.old.transitions.items [] }
@@ -173,7 +173,7 @@ fn read_rest<B: Blocks, S: BuildHasher>(
     reader: &mut B,
     kept: &mut Kept,
     found: Announced,
-    rows: &mut Rows<S>,
+    rows: &mut ReadTransitions<S>,
 ) -> Result<Lts, AutError>
     requires admitted { IsWithinLimits found }
     requires none { Gathers (texts rows.old.labels.keys) rows.old.transitions.items [] }
@@ -202,7 +202,7 @@ fn read_text<B: Blocks, S: BuildHasher + Drop>(
 {
     let mut kept = Kept::new(alloc);
     let found = read_first(reader, &mut kept.digits)?;
-    let mut rows = Rows::new(alloc, hasher);
+    let mut rows = ReadTransitions::new(alloc, hasher);
     read_rest(alloc, reader, &mut kept, found, &mut rows)
 }
 

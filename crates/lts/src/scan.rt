@@ -27,7 +27,7 @@ pub(crate) struct Announced {
 
 /// What a transition line says. A number that is too great for its type is read as the greatest one.
 #[derive(Clone, Copy)]
-pub(crate) struct Spelled<'a> {
+pub(crate) struct TransitionLine<'a> {
     pub source: u32,
     pub label: &'a [u8],
     pub target: u32,

@@ -23,6 +23,7 @@ pub fn write_aut<W: Sink>(lts: &Lts, out: &mut W) -> Result<(), WriteFault>
     // The text spells the system.
     ensures spelled { IsAut (aut_text lts.now.system) lts.now.system }
 {
+    // For the proof: the clauses of this call say what the system has.
     let _states = lts.states();
     write_part(lts, lts.all(), out)
 }

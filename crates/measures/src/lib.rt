@@ -1,6 +1,13 @@
-// Progress measures of parity games: solving on one thread, by lifting. It re-exports the measures and tables of `progress`.
+// Progress measures of parity games, tables of them, and solving on one thread, by lifting a table until no lift raises it.
 #![tactic(auto)]
 
+pub mod bounds;
+pub mod measure;
+mod pending;
+pub mod progs;
+pub mod proposal;
+pub mod rank;
+pub mod rows;
 pub mod settle;
-
-pub use progress::{bounds, measure, observer, progs, proposal, rank, rows, table, writer};
+pub mod table;
+pub mod writer;

@@ -1,5 +1,7 @@
 // The command `check`.
 
+use command_line::names::EvidenceNames;
+use command_line::request::Outputs;
 use console::files::{Files, evidence_names};
 use console::input::{CountedInput, Input, label_hasher, open};
 use console::line::ProgressLine;
@@ -10,8 +12,6 @@ use console::stats::Stats;
 use engines::engine::check_asked;
 use engines::request::{Check, ReportForm};
 use engines::writers::Writers;
-use invocation::names::EvidenceNames;
-use invocation::request::Outputs;
 use std::sync::Wait;
 use std::thread::Threads;
 use std::time::Clock;

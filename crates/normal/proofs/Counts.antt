@@ -1,7 +1,7 @@
 -- How many nodes normal forms have.
 use Rattle.std.proofs.Common.{◌≡◌, ◌+◌, ◌<◌, ℕ, Bool, List, not, refl, ap, arith}
 use Rattle.calculus.specs.Tree.{Regular, Step, Then, Either, Star, Plus, Formula, True, False, Var, Not, And, Or, Implies, Dia, Box, Mu, Nu}
-use Rattle.forms.specs.Tree.{Norm, Variable, size, two, loop_of, modal, norm, with_binder, modal_count, node_count}
+use Rattle.calculus.specs.NormalTree.{Norm, Variable, size, two, loop_of, modal, norm, with_binder, modal_count, node_count}
 
 -- A modality has more nodes than its operand.
 pub modal_count_grows : (r : Regular) (x : ℕ) → x < modal_count r x

@@ -3,12 +3,12 @@ use Rattle.std.proofs.Common.{◌≡◌, ◌+◌, ◌%◌, ◌≤◌, ℕ, max, 
 use Rattle.std.specs.Prelude.{if◌then◌else◌}
 use Rattle.std.specs.List.{AllZip}
 use Rattle.std.proofs.lemmas.Bool.Decides.{eqb_tells}
-use Rattle.forms.specs.Tree.{Norm, Constant, Junction, Modality, Fixpoint, Variable, size, chain, depth, normal_form}
-use Rattle.forms.specs.Nodes.{Node, nodes_by, nested_rule, greatest_nested, greatest_node_priority, parity_from}
-use Rattle.forms.specs.Rules.{names, above, dependent, nodes_with}
-use Rattle.forms.specs.declared.priorities.Priorities.TheVariants.{Nested, Dependent}
+use Rattle.calculus.specs.NormalTree.{Norm, Constant, Junction, Modality, Fixpoint, Variable, size, chain, depth, normal_form}
+use Rattle.calculus.specs.Nodes.{Node, nodes_by, nested_rule, greatest_nested, greatest_node_priority, parity_from}
+use Rattle.calculus.specs.Rules.{names, above, dependent, nodes_with}
+use Rattle.calculus.specs.declared.priorities.Priorities.TheVariants.{Nested, Dependent}
 use Rattle.normal.specs.Laws.{PriorityWithinDepth, DependentIsLower}
-use Rattle.forms.proofs.Sizes.{no_less}
+use Rattle.calculus.proofs.Sizes.{no_less}
 use Rattle.normal.proofs.Surveying.{greatest_append}
 
 -- A chain that begins with the kind of the greatest priority is at least as long.

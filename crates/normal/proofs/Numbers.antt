@@ -3,14 +3,14 @@ use Rattle.std.proofs.Common.{◌≡◌, ◌+◌, ◌≤◌, ◌<◌, ℕ, Bool,
 use Rattle.std.specs.List.{AllByRecursion}
 use Rattle.std.specs.Str.{bytes_eq}
 use Rattle.calculus.specs.Tree.{Regular, Step, Then, Either, Star, Plus, Formula, True, False, Var, Not, And, Or, Implies, Dia, Box, Mu, Nu}
-use Rattle.forms.specs.Tree.{Norm, Constant, Junction, Modality, Fixpoint, Variable, size, two, loop_of, modal, with_binder, norm, normal_form, node_count}
-use Rattle.forms.specs.Nodes.{Rule, nodes_by, node_at, parity_from, greatest_node_priority}
-use Rattle.forms.specs.Rules.{rule_of, nodes_with}
-use Rattle.forms.specs.declared.priorities.Priorities.{Priorities}
-use Rattle.forms.specs.Form.{IsNode, IsForm}
+use Rattle.calculus.specs.NormalTree.{Norm, Constant, Junction, Modality, Fixpoint, Variable, size, two, loop_of, modal, with_binder, norm, normal_form, node_count}
+use Rattle.calculus.specs.Nodes.{Rule, nodes_by, node_at, parity_from, greatest_node_priority}
+use Rattle.calculus.specs.Rules.{rule_of, nodes_with}
+use Rattle.calculus.specs.declared.priorities.Priorities.{Priorities}
+use Rattle.calculus.specs.Form.{IsNode, IsForm}
 use Rattle.normal.proofs.Counts.{norm_size}
 use Rattle.normal.proofs.Surveying.{greatest_append}
-use Rattle.forms.proofs.Sizes.{no_less, preorder_length, size_some}
+use Rattle.calculus.proofs.Sizes.{no_less, preorder_length, size_some}
 
 -- each variable's number is below n
 abbrev VariablesBelow : ℕ → Norm → Type 0

@@ -2,11 +2,11 @@
 use Rattle.std.proofs.Common.{◌≡◌, ℕ, ◌+◌, ◌<◌, ◌≤◌, max, List, [], ◌∷◌, ◌++◌, length, drop, get_or, drop-cons, add-one, decimal, refl, sym, ap, ◌∙◌}
 use Rattle.std.proofs.Common.{append_assoc, append-nil}
 use Rattle.std.proofs.Math.ListN.{drop_of_length-le}
-use Rattle.forms.specs.Nodes.{Node, greatest_node_priority}
+use Rattle.calculus.specs.Nodes.{Node, greatest_node_priority}
 use Rattle.text.specs.Pieces.{line_end}
 use Rattle.normal.specs.NormalText.{fields, after_spaces, kind_text, rest_of, node_line, node_lines}
-use Rattle.forms.specs.View.{node_of, nodes_of}
-use Rattle.forms.specs.declared.node as declared
+use Rattle.calculus.specs.NodeView.{node_of, nodes_of}
+use Rattle.calculus.specs.declared.node as declared
 
 one_more : (a : List ℕ) (others : List (List ℕ)) → fields (a ∷ others) ≡ a ++ after_spaces others
 one_more a [] = sym (append-nil a)

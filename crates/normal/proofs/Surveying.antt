@@ -3,15 +3,15 @@ use Rattle.std.proofs.Common.{◌≡◌, ◌≢◌, ℕ, ◌+◌, ◌<◌, ◌�
 use Rattle.std.specs.Prelude.{nat_lt, ◌==◌, if◌then◌else◌, slice_set, slice_index}
 use Rattle.std.proofs.lemmas.Bool.{lt-ltb, le-ltb}
 use Rattle.std.proofs.lemmas.List.{get_or-set_same, get_or-set_other}
-use Rattle.forms.specs.Tree.{Norm, Constant, Junction, Modality, Fixpoint, Variable, ConstantNode, JunctionNode, ModalityNode, FixpointNode, VariableNode}
-use Rattle.forms.specs.Tree.{size, chain, two}
-use Rattle.forms.specs.Nodes.{Node, Rule, nodes_by, greatest_nested, greatest_node_priority, parity_from}
-use Rattle.forms.specs.Rules.{names, above, rule_of}
+use Rattle.calculus.specs.NormalTree.{Norm, Constant, Junction, Modality, Fixpoint, Variable, ConstantNode, JunctionNode, ModalityNode, FixpointNode, VariableNode}
+use Rattle.calculus.specs.NormalTree.{size, chain, two}
+use Rattle.calculus.specs.Nodes.{Node, Rule, nodes_by, greatest_nested, greatest_node_priority, parity_from}
+use Rattle.calculus.specs.Rules.{names, above, rule_of}
 use Rattle.normal.specs.Surveys.{last_seen, open_at, opened, raised, chosen, past, AreBefore, Summarizes, IsFixpointOf, noted_rule, Surveys, closed}
-use Rattle.forms.specs.declared.priorities.Priorities.{Priorities}
-use Rattle.forms.specs.declared.priorities.Priorities.TheVariants.{Nested, Dependent}
-use Rattle.normal.specs.declared.survey.Open.{Open}
-use Rattle.normal.specs.declared.survey.Place.{Place}
+use Rattle.calculus.specs.declared.priorities.Priorities.{Priorities}
+use Rattle.calculus.specs.declared.priorities.Priorities.TheVariants.{Nested, Dependent}
+use Rattle.normal.specs.declared.survey.OpenBinder.{OpenBinder}
+use Rattle.normal.specs.declared.survey.PartPlace.{PartPlace}
 use Rattle.normal.specs.declared.survey.Summary.{Summary}
 use Rattle.normal.specs.declared.survey.Survey.{Survey}
 
@@ -133,16 +133,16 @@ greatest_append (x ∷ xs) ys = let e = greatest_append xs ys in omega arith
 -- ---- parts
 
 -- what a node that binds nothing leaves
-pub record IsLeaf (old new : Survey) (place : Place) : Type 0 where
+pub record IsLeaf (old new : Survey) (place : PartPlace) : Type 0 where
   pub priorities : new.priorities ≡ slice_set old.priorities place.at 0
   pub opens : new.opens ≡ old.opens
   pub rule : new.rule ≡ old.rule
   pub room : place.at < length old.priorities
 
-leaf_noted : (old new : Survey) (place : Place) → IsLeaf old new place → slice_index new.priorities place.at ≡ 0
+leaf_noted : (old new : Survey) (place : PartPlace) → IsLeaf old new place → slice_index new.priorities place.at ≡ 0
 leaf_noted old new place h = ap (λ t. slice_index t place.at) h.priorities ∙ get_or-set_same old.priorities place.at 0 0 h.room
 
-leaf_kept : (old new : Survey) (place : Place) → IsLeaf old new place → (k : ℕ) → k < place.at → slice_index new.priorities k ≡ slice_index old.priorities k
+leaf_kept : (old new : Survey) (place : PartPlace) → IsLeaf old new place → (k : ℕ) → k < place.at → slice_index new.priorities k ≡ slice_index old.priorities k
 leaf_kept old new place h k below = ap (λ t. slice_index t k) h.priorities ∙ get_or-set_other old.priorities place.at k 0 0 (λ e. omega arith)
 
 junction_zero : (r : Priorities) (at : ℕ) (flag : Bool) (f g : Norm) → 0 ≡ rule_of r at (Junction flag f g)
@@ -150,13 +150,13 @@ junction_zero Nested at flag f g = refl
 junction_zero Dependent at flag f g = refl
 
 -- past a tree no variable was seen from its end on
-pub past_before : (old new : Survey) (place : Place) (f : Norm) (s : Summary) → Surveys old new place f s → AreBefore old.opens place.level place.at
+pub past_before : (old new : Survey) (place : PartPlace) (f : Norm) (s : Summary) → Surveys old new place f s → AreBefore old.opens place.level place.at
     → AreBefore new.opens place.level s.next
 past_before old new place f s w before i below =
     let o = open_at old.opens i in
     let t = tells o.number place.at f o.last (before i below) in
     let low : last_seen o.number place.at f o.last < place.at + size f = t.below in
-    let is : (open_at new.opens i).last ≡ last_seen o.number place.at f o.last = ap (λ (x : Open). x.last) (w.opens i below) in
+    let is : (open_at new.opens i).last ≡ last_seen o.number place.at f o.last = ap (λ (x : OpenBinder). x.last) (w.opens i below) in
     let next : s.next ≡ place.at + size f = w.summary.next in
     omega arith
 
@@ -166,7 +166,7 @@ none_first n = omega arith
 three : (a b c : ℕ) → max (max a b) c ≡ max a (max b c)
 three a b c = omega arith
 
-pub junction_surveys : (old mid one new : Survey) (place : Place) (f g : ℕ → Norm) (first second s : Summary) → IsLeaf old mid place
+pub junction_surveys : (old mid one new : Survey) (place : PartPlace) (f g : ℕ → Norm) (first second s : Summary) → IsLeaf old mid place
     → Surveys mid one (record { at = place.at + 1; level = place.level }) (f (place.at + 1)) first
     → Surveys one new (record { at = first.next; level = place.level }) (g first.next) second
     → s ≡ record {
@@ -243,7 +243,7 @@ later_named b at f last h = let t = tells b (at + 1) f last (omega arith) in by_
     by_cases true n some none = lt-ltb at n (omega (arith, some refl))
     by_cases false n some none = le-ltb at n (omega (arith, none refl))
 
-raised_past : (at : ℕ) (flag : Bool) (f : Norm) (o : Open) → o.last < at
+raised_past : (at : ℕ) (flag : Bool) (f : Norm) (o : OpenBinder) → o.last < at
     → raised at (parity_from flag (above at (at + 1) f)) (past (at + 1) f o) ≡ past at (Fixpoint flag f) o
 raised_past at flag f o h =
     let e = over_all (names o.number f) (nat_lt at (last_seen o.number (at + 1) f o.last)) o.above (above o.number (at + 1) f)
@@ -251,26 +251,26 @@ raised_past at flag f o h =
     λ i. record { number = o.number; last = last_seen o.number (at + 1) f o.last; above = e i }
 
 -- what the binder whose operand begins leaves
-pub record IsOpened (old new : Survey) (place : Place) : Type 0 where
+pub record IsOpened (old new : Survey) (place : PartPlace) : Type 0 where
   pub opens : new.opens ≡ slice_set old.opens place.level (opened place.at)
   pub priorities : new.priorities ≡ old.priorities
   pub rule : new.rule ≡ old.rule
   pub room : place.level < length old.opens
 
-opened_own : (old new : Survey) (place : Place) → IsOpened old new place → open_at new.opens place.level ≡ opened place.at
+opened_own : (old new : Survey) (place : PartPlace) → IsOpened old new place → open_at new.opens place.level ≡ opened place.at
 opened_own old new place h = ap (λ os. open_at os place.level) h.opens ∙ get_or-set_same old.opens place.level (opened place.at) closed h.room
 
-opened_others : (old new : Survey) (place : Place) → IsOpened old new place → (i : ℕ) → i < place.level → open_at new.opens i ≡ open_at old.opens i
+opened_others : (old new : Survey) (place : PartPlace) → IsOpened old new place → (i : ℕ) → i < place.level → open_at new.opens i ≡ open_at old.opens i
 opened_others old new place h i below = ap (λ os. open_at os i) h.opens ∙ get_or-set_other old.opens place.level i (opened place.at) closed (λ e. omega arith)
 
 -- how much its operand has above the binder
-pub opened_above : (old mid end : Survey) (place : Place) (f : Norm) (inside : Summary) → IsOpened old mid place
+pub opened_above : (old mid end : Survey) (place : PartPlace) (f : Norm) (inside : Summary) → IsOpened old mid place
     → Surveys mid end (record { at = place.at + 1; level = place.level + 1 }) f inside
     → (open_at end.opens place.level).above ≡ above place.at (place.at + 1) f
 opened_above old mid end place f inside h w =
     let own : open_at end.opens place.level ≡ past (place.at + 1) f (opened place.at) = w.opens place.level (omega arith)
     ∙ ap (past (place.at + 1) f) (opened_own old mid place h) in
-    ap (λ (o : Open). o.above) own ∙ none (above place.at (place.at + 1) f)
+    ap (λ (o : OpenBinder). o.above) own ∙ none (above place.at (place.at + 1) f)
   where
     none : (n : ℕ) → max 0 n ≡ n
     none n = omega arith
@@ -295,14 +295,14 @@ fixpoint_summary false at rule f inside s priority h p is =
     }
 
 -- what is left when its operand has ended
-pub record IsClosed (old new : Survey) (place : Place) (flag : Bool) (inside s : Summary) : Type 0 where
+pub record IsClosed (old new : Survey) (place : PartPlace) (flag : Bool) (inside s : Summary) : Type 0 where
   pub own : slice_index new.priorities place.at ≡ chosen old.rule flag inside.nested (open_at old.opens place.level).above
   pub others : (k : ℕ) → k ≢ place.at → slice_index new.priorities k ≡ slice_index old.priorities k
   pub opens : (i : ℕ) → i < place.level → open_at new.opens i ≡ raised place.at (parity_from flag (open_at old.opens place.level).above) (open_at old.opens i)
   pub rule : new.rule ≡ old.rule
   pub summary : IsFixpointOf flag inside (chosen old.rule flag inside.nested (open_at old.opens place.level).above) s
 
-pub fixpoint_surveys : (old mid end new : Survey) (place : Place) (flag : Bool) (f : Norm) (inside s : Summary) → IsOpened old mid place
+pub fixpoint_surveys : (old mid end new : Survey) (place : PartPlace) (flag : Bool) (f : Norm) (inside s : Summary) → IsOpened old mid place
     → Surveys mid end (record { at = place.at + 1; level = place.level + 1 }) f inside
     → IsClosed end new place flag inside s → AreBefore old.opens place.level place.at → Surveys old new place (Fixpoint flag f) s
 fixpoint_surveys old mid end new place flag f inside s h w k before =

@@ -4,14 +4,14 @@ use Rattle.std.specs.Prelude.{slice_index, vec_len}
 use Rattle.std.specs.Vec.{with_item}
 use Rattle.std.proofs.lemmas.List.{map-set, get_or-map, length-map}
 use Rattle.std.proofs.Math.Seq.{set-append_seam, get_or-append_seam}
-use Rattle.forms.specs.Tree.{Norm, Constant, Junction, Modality, Fixpoint, Variable, Shape, JunctionNode, size, two, preorder}
-use Rattle.forms.specs.Nodes.{Node, nodes_by, node_at}
+use Rattle.calculus.specs.NormalTree.{Norm, Constant, Junction, Modality, Fixpoint, Variable, Shape, JunctionNode, size, two, preorder}
+use Rattle.calculus.specs.Nodes.{Node, nodes_by, node_at}
 use Rattle.normal.specs.Surveys.{noted_rule}
-use Rattle.forms.specs.View.{shape_of, node_of, nodes_of}
+use Rattle.calculus.specs.NodeView.{shape_of, node_of, nodes_of}
 use Rattle.normal.specs.Writes.{Writes}
-use Rattle.forms.specs.declared.node as declared
+use Rattle.calculus.specs.declared.node as declared
 use Rattle.normal.specs.declared.write.Preorder.{Preorder}
-use Rattle.forms.proofs.Sizes.{preorder_length}
+use Rattle.calculus.proofs.Sizes.{preorder_length}
 
 -- these nodes follow the old ones
 abbrev Follows : List ℕ → (at : ℕ) (old new : List Node) → Norm → Type 0

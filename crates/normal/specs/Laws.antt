@@ -2,11 +2,11 @@
 use Rattle.std.specs.Prelude.{◌≡◌, ◌≤◌}
 use Rattle.std.specs.List.{AllZip}
 use Rattle.calculus.specs.Tree.{Formula}
-use Rattle.forms.specs.Tree.{size, node_count, depth, normal_form}
-use Rattle.forms.specs.Nodes.{greatest_node_priority}
-use Rattle.forms.specs.Rules.{nodes_with}
-use Rattle.forms.specs.declared.priorities.Priorities.{Priorities}
-use Rattle.forms.specs.declared.priorities.Priorities.TheVariants.{Nested, Dependent}
+use Rattle.calculus.specs.NormalTree.{size, node_count, depth, normal_form}
+use Rattle.calculus.specs.Nodes.{greatest_node_priority}
+use Rattle.calculus.specs.Rules.{nodes_with}
+use Rattle.calculus.specs.declared.priorities.Priorities.{Priorities}
+use Rattle.calculus.specs.declared.priorities.Priorities.TheVariants.{Nested, Dependent}
 
 -- By either rule, no node's priority is above the length of the longest alternating chain.
 abbrev pub PriorityWithinDepth : Type 0

@@ -3,8 +3,8 @@ use Rattle.std.specs.Prelude.{ℕ, ◌+◌, List, [], ◌∷◌, ◌++◌, lengt
 use Rattle.std.specs.List.{join_with_byte}
 use Rattle.text.specs.Pieces.{line_end}
 use Rattle.calculus.specs.Canon.{action_text}
-use Rattle.forms.specs.Tree.{Shape, ConstantNode, JunctionNode, ModalityNode, FixpointNode, VariableNode}
-use Rattle.forms.specs.Nodes.{Node, greatest_node_priority}
+use Rattle.calculus.specs.NormalTree.{Shape, ConstantNode, JunctionNode, ModalityNode, FixpointNode, VariableNode}
+use Rattle.calculus.specs.Nodes.{Node, greatest_node_priority}
 
 -- fields, with one space between them
 abbrev pub fields : List (List ℕ) → List ℕ

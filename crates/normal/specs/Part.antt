@@ -1,7 +1,7 @@
 -- What a part of a normal form stands for: a tree for each number that its first node may get.
 use Rattle.std.specs.Prelude.{ℕ, List}
 use Rattle.calculus.specs.View.{regular_of, formula_of}
-use Rattle.forms.specs.Tree.{Norm, Variable, two, modal, loop_of, with_binder, norm}
+use Rattle.calculus.specs.NormalTree.{Norm, Variable, two, modal, loop_of, with_binder, norm}
 use Rattle.normal.specs.declared.part.NumberedScope.{NumberedScope}
 use Rattle.normal.specs.declared.part.NumberedScope.TheVariants as scope
 use Rattle.normal.specs.declared.part.Part.{Part}

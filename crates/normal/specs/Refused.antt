@@ -1,14 +1,14 @@
 -- When a formula has no normal form within the limits.
 use Rattle.std.specs.Prelude.{◌≤◌, ◌<◌}
 use Rattle.calculus.specs.Tree.{Formula}
-use Rattle.forms.specs.Tree.{node_count}
-use Rattle.forms.specs.Nodes.{greatest_node_priority}
-use Rattle.forms.specs.Rules.{nodes_with}
-use Rattle.forms.specs.declared.limits.TheConstants.{MOST_NODES, GREATEST_PRIORITY}
+use Rattle.calculus.specs.NormalTree.{node_count}
+use Rattle.calculus.specs.Nodes.{greatest_node_priority}
+use Rattle.calculus.specs.Rules.{nodes_with}
+use Rattle.calculus.specs.declared.limits.TheConstants.{MOST_NODES, GREATEST_PRIORITY}
 use Rattle.normal.specs.declared.error.NormalError.{NormalError}
 use Rattle.normal.specs.declared.error.NormalError.TheVariants.{TooManyNodes, PriorityTooGreat, Memory}
-use Rattle.forms.specs.declared.priorities.Priorities.{Priorities}
-use Rattle.forms.specs.declared.priorities.Priorities.TheVariants.{Nested}
+use Rattle.calculus.specs.declared.priorities.Priorities.{Priorities}
+use Rattle.calculus.specs.declared.priorities.Priorities.TheVariants.{Nested}
 
 -- The count decides first, and then the greatest priority. Memory is wanted only where neither is above its limit.
 abbrev pub HasRefusalWith : Priorities → Formula → NormalError → Type 0

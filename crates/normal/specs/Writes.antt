@@ -1,9 +1,9 @@
 -- What writing the nodes of a part does.
 use Rattle.std.specs.Prelude.{◌≡◌, vec_len, ◌++◌}
-use Rattle.forms.specs.Tree.{Norm}
-use Rattle.forms.specs.Nodes.{nodes_by}
+use Rattle.calculus.specs.NormalTree.{Norm}
+use Rattle.calculus.specs.Nodes.{nodes_by}
 use Rattle.normal.specs.Surveys.{noted_rule}
-use Rattle.forms.specs.View.{nodes_of}
+use Rattle.calculus.specs.NodeView.{nodes_of}
 use Rattle.normal.specs.declared.write.Preorder.{Preorder}
 
 -- The nodes of the tree follow the old ones, each with the priority of its number, and the priorities stay.

@@ -2,10 +2,10 @@
 
 ghost use Rattle.std.specs.Prelude.{◌≡◌, ◌<◌, ◌≤◌, MatchOption};
 ghost use Rattle.calculus.specs.View.{regular_of, formula_of};
-ghost use Rattle.forms.specs.Tree.{node_count as count_of, modal_count as modal_count_of};
+ghost use Rattle.calculus.specs.NormalTree.{node_count as count_of, modal_count as modal_count_of};
 
+use calculus::limits::MOST_NODES;
 use calculus::tree::{Reg, State};
-use forms::limits::MOST_NODES;
 
 // The number, where it is within the limit.
 fn within(number: u32) -> Option<u32>
@@ -42,7 +42,7 @@ pub fn counted_nodes(formula: &State) -> Option<u32>
     }
 }
 
-// The same for a modality, whose operand has so many nodes.
+// How many nodes a modality has whose operand has so many, or nothing where there are more than the limit allows.
 #[tactic(auto, using(crate::proofs::Counts::modal_count_grows))]
 fn modal_count(regular: &Reg, operand: u32) -> Option<u32>
     requires { operand ≤ MOST_NODES }

@@ -23,8 +23,7 @@ impl From<AllocError> for NormalError {
 
     ghost from_gives = { λ error result. result ≡ Memory };
 
-    fn from(error: AllocError) -> Self {
-        let _ = error;
+    fn from(_: AllocError) -> Self {
         NormalError::Memory
     }
 }

@@ -11,4 +11,4 @@ pub mod printer;
 mod survey;
 mod write;
 
-pub use forms::{form, limits, node, priorities};
+pub use calculus::{form, limits, node, priorities};

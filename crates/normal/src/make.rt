@@ -2,21 +2,21 @@
 
 ghost use Rattle.std.specs.Prelude.{◌≡◌, ◌≤◌, IfOk, OnOk, IfErr};
 ghost use Rattle.calculus.specs.Closed.{closed_formula};
-ghost use Rattle.forms.specs.Tree.{node_count as count_of, depth, normal_form};
-ghost use Rattle.forms.specs.Nodes.{nodes, greatest_node_priority};
-ghost use Rattle.forms.specs.Rules.{nodes_with};
-ghost use Rattle.forms.specs.Normal.{normal_nodes, normal_depth};
+ghost use Rattle.calculus.specs.NormalTree.{node_count as count_of, depth, normal_form};
+ghost use Rattle.calculus.specs.Nodes.{nodes, greatest_node_priority};
+ghost use Rattle.calculus.specs.Rules.{nodes_with};
+ghost use Rattle.calculus.specs.Normal.{normal_nodes, normal_depth};
 ghost use Rattle.normal.specs.Refused.{HasRefusal, HasRefusalWith};
 
 use crate::count::counted_nodes;
 use crate::error::NormalError;
 use crate::part::{NumberedScope, Part};
-use crate::survey::{Place, Survey};
+use crate::survey::{PartPlace, Survey};
 use crate::write::Preorder;
 use calculus::closed::Closed;
-use forms::form::Normal;
-use forms::limits::{GREATEST_PRIORITY, MOST_NODES};
-use forms::priorities::Priorities;
+use calculus::form::Normal;
+use calculus::limits::{GREATEST_PRIORITY, MOST_NODES};
+use calculus::priorities::Priorities;
 use std::alloc::Global;
 
 /// The normal form of a formula with the nested priorities. Negations go down to the action formulas, and iterations become
@@ -56,7 +56,7 @@ pub fn normal_with(
     }
     let part = Part::Formula(true, tree, &NumberedScope::Empty);
     let mut survey = Survey::new(priorities);
-    let summary = survey.part(Place::ROOT, &part);
+    let summary = survey.part(PartPlace::ROOT, &part);
     if summary.greatest > GREATEST_PRIORITY {
         return Err(NormalError::PriorityTooGreat);
     }

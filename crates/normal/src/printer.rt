@@ -4,16 +4,16 @@ ghost use Rattle.std.specs.Prelude.{◌≡◌, ◌++◌, ◌∷◌, [], codes, d
 ghost use Rattle.calculus.specs.View.{action_of};
 ghost use Rattle.calculus.specs.Canon.{action_text};
 ghost use Rattle.text.specs.Wrote.{Wrote};
-ghost use Rattle.forms.specs.Nodes.{greatest_node_priority as greatest_priority_of};
+ghost use Rattle.calculus.specs.Nodes.{greatest_node_priority as greatest_priority_of};
 ghost use Rattle.text.specs.Pieces.{line_end};
 ghost use Rattle.normal.specs.NormalText.{normal_text, summary_line, kind_text, rest_of, fields, after_spaces, node_line, node_lines};
-ghost use Rattle.forms.specs.View.{node_of, nodes_of, shape_of};
-ghost use Rattle.forms.specs.Normal.{normal_nodes, normal_depth};
+ghost use Rattle.calculus.specs.NodeView.{node_of, nodes_of, shape_of};
+ghost use Rattle.calculus.specs.Normal.{normal_nodes, normal_depth};
 
+use calculus::form::Normal;
+use calculus::node::{Kind, Node};
 use calculus::put_action;
 use calculus::tree::Act;
-use forms::form::Normal;
-use forms::node::{Kind, Node};
 use text::sink::Sink;
 use text::{Piece, WriteFault, put, put_pieces};
 

@@ -3,19 +3,19 @@
 ghost use Rattle.std.specs.Prelude.{◌≡◌, ℕ, ◌+◌, ◌<◌, ◌≤◌, ◌^◌, max, ◌≢◌, Bool, true, length, slice_index, slice_set};
 ghost use Rattle.calculus.specs.View.{regular_of, formula_of};
 ghost use Rattle.calculus.specs.Tree.{Action};
-ghost use Rattle.forms.specs.Tree.{Variable, Modality, Fixpoint, size, two, modal, loop_of, norm};
-ghost use Rattle.forms.specs.Nodes.{parity_from};
+ghost use Rattle.calculus.specs.NormalTree.{Variable, Modality, Fixpoint, size, two, modal, loop_of, norm};
+ghost use Rattle.calculus.specs.Nodes.{parity_from};
 ghost use Rattle.normal.specs.Part.{tree_of, binders_of};
 ghost use Rattle.normal.specs.Surveys.{open_at, opened, seen_open, raised, chosen, IsFixpointOf, AreBefore, Surveys};
 
 use crate::part::{NumberedScope, Part, binder_of};
+use calculus::limits::MOST_NODES;
+use calculus::priorities::Priorities;
 use calculus::tree::{Reg, State};
-use forms::limits::MOST_NODES;
-use forms::priorities::Priorities;
 
 /// A binder whose operand is being surveyed.
 #[derive(Clone, Copy)]
-struct Open {
+struct OpenBinder {
     /// The number of its node.
     number: u32,
     /// The number of its variable's last node so far, or its own.
@@ -24,7 +24,7 @@ struct Open {
     above: u32,
 }
 
-const CLOSED: Open = Open {
+const CLOSED: OpenBinder = OpenBinder {
     number: 0,
     last: 0,
     above: 0,
@@ -32,16 +32,16 @@ const CLOSED: Open = Open {
 
 /// Where a part stands.
 #[derive(Clone, Copy)]
-pub struct Place {
+pub struct PartPlace {
     /// The number of its first node.
     at: u32,
     /// How many binders are around it.
     level: u32,
 }
 
-impl Place {
+impl PartPlace {
     /// That of a whole tree.
-    pub const ROOT: Place = Place { at: 0, level: 0 };
+    pub const ROOT: PartPlace = PartPlace { at: 0, level: 0 };
 
     // That of the operand of a binder.
     fn inside(self) -> Self
@@ -49,7 +49,7 @@ impl Place {
         requires level { self.level < MOST_NODES }
         ensures { result ≡ record { at = self.at + 1; level = self.level + 1 } }
     {
-        Place {
+        PartPlace {
             at: self.at + 1,
             level: self.level + 1,
         }
@@ -59,7 +59,7 @@ impl Place {
     fn beside(self, at: u32) -> Self
         ensures { result ≡ record { at = at; level = self.level } }
     {
-        Place {
+        PartPlace {
             at,
             level: self.level,
         }
@@ -86,7 +86,7 @@ pub struct Summary {
 pub struct Survey {
     rule: Priorities,
     pub priorities: [u32; MOST_NODES],
-    opens: [Open; MOST_NODES],
+    opens: [OpenBinder; MOST_NODES],
 }
 
 impl Summary {
@@ -158,7 +158,7 @@ fn of_fixpoint(flag: bool, inside: Summary, priority: u32) -> Summary
 }
 
 // The variable of a binder was seen.
-fn see(opens: &mut [Open], level: u32, binder: u32, at: u32)
+fn see(opens: &mut [OpenBinder], level: u32, binder: u32, at: u32)
     requires { level ≤ length opens.old }
     ensures { (i : ℕ) → i < level → open_at opens.new i ≡ seen_open binder at (open_at opens.old i) }
 {
@@ -170,7 +170,7 @@ fn see(opens: &mut [Open], level: u32, binder: u32, at: u32)
 }
 
 // A binder has this priority: that counts for those around it whose variables were seen inside it.
-fn raise(opens: &mut [Open], level: u32, at: u32, priority: u32)
+fn raise(opens: &mut [OpenBinder], level: u32, at: u32, priority: u32)
     requires { level ≤ length opens.old }
     ensures { (i : ℕ) → i < level → open_at opens.new i ≡ raised at priority (open_at opens.old i) }
 {
@@ -194,7 +194,7 @@ impl Survey {
     }
 
     // A node that binds nothing.
-    fn leaf(&mut self, place: Place) -> Summary
+    fn leaf(&mut self, place: PartPlace) -> Summary
         requires { place.at < MOST_NODES }
         ensures priorities { self.new.priorities ≡ slice_set self.old.priorities place.at 0 }
         ensures opens { self.new.opens ≡ self.old.opens }
@@ -212,7 +212,7 @@ impl Survey {
     }
 
     // A variable of this binder.
-    fn variable(&mut self, place: Place, binder: u32) -> Summary
+    fn variable(&mut self, place: PartPlace, binder: u32) -> Summary
         requires room { place.at < MOST_NODES }
         requires level { place.level ≤ place.at }
         ensures { Surveys self.old self.new place (Variable binder) result }
@@ -223,7 +223,7 @@ impl Survey {
 
     /// The priorities of a part's nodes.
     #[cycle(survey)]
-    pub fn part<'a>(&mut self, place: Place, part: &'a Part<'a>) -> Summary
+    pub fn part<'a>(&mut self, place: PartPlace, part: &'a Part<'a>) -> Summary
         requires room { place.at + size (tree_of part.now place.at) ≤ MOST_NODES }
         requires level { place.level ≤ place.at }
         requires before { AreBefore self.old.opens place.level place.at }
@@ -241,7 +241,7 @@ impl Survey {
     #[cycle(survey)]
     fn formula<'a>(
         &mut self,
-        place: Place,
+        place: PartPlace,
         flag: bool,
         formula: &'a State,
         scope: &'a NumberedScope<'a>,
@@ -283,7 +283,7 @@ impl Survey {
     #[cycle(survey)]
     fn modal<'a>(
         &mut self,
-        place: Place,
+        place: PartPlace,
         flag: bool,
         regular: &'a Reg,
         operand: &'a Part<'a>,
@@ -309,7 +309,7 @@ impl Survey {
     #[cycle(survey)]
     fn iteration<'a>(
         &mut self,
-        place: Place,
+        place: PartPlace,
         flag: bool,
         regular: &'a Reg,
         operand: &'a Part<'a>,
@@ -329,7 +329,7 @@ impl Survey {
 
     // Two operands, joined by either sign.
     #[cycle(survey)]
-    fn junction<'a>(&mut self, place: Place, left: &'a Part<'a>, right: &'a Part<'a>) -> Summary
+    fn junction<'a>(&mut self, place: PartPlace, left: &'a Part<'a>, right: &'a Part<'a>) -> Summary
         requires room { place.at + size (two true (tree_of left.now) (tree_of right.now) place.at) ≤ MOST_NODES }
         requires level { place.level ≤ place.at }
         requires before { AreBefore self.old.opens place.level place.at }
@@ -343,7 +343,7 @@ impl Survey {
 
     // A step of either kind.
     #[cycle(survey)]
-    fn modality<'a>(&mut self, place: Place, operand: &'a Part<'a>) -> Summary
+    fn modality<'a>(&mut self, place: PartPlace, operand: &'a Part<'a>) -> Summary
         requires room { place.at + (1 + size (tree_of operand.now (place.at + 1))) ≤ MOST_NODES }
         requires level { place.level ≤ place.at }
         requires before { AreBefore self.old.opens place.level place.at }
@@ -354,7 +354,7 @@ impl Survey {
     }
 
     #[cycle(survey)]
-    fn fixpoint<'a>(&mut self, place: Place, flag: bool, operand: &'a Part<'a>) -> Summary
+    fn fixpoint<'a>(&mut self, place: PartPlace, flag: bool, operand: &'a Part<'a>) -> Summary
         requires room { place.at + (1 + size (tree_of operand.now (place.at + 1))) ≤ MOST_NODES }
         requires level { place.level ≤ place.at }
         requires before { AreBefore self.old.opens place.level place.at }
@@ -366,13 +366,13 @@ impl Survey {
     }
 
     // The operand of a binder begins.
-    fn open(&mut self, place: Place)
+    fn open(&mut self, place: PartPlace)
         requires { place.level < MOST_NODES }
         ensures opens { self.new.opens ≡ slice_set self.old.opens place.level (opened place.at) }
         ensures priorities { self.new.priorities ≡ self.old.priorities }
         ensures rule { self.new.rule ≡ self.old.rule }
     {
-        self.opens[place.level as usize] = Open {
+        self.opens[place.level as usize] = OpenBinder {
             number: place.at,
             last: place.at,
             above: 0,
@@ -380,7 +380,7 @@ impl Survey {
     }
 
     // It ends: the binder's priority is known, and those around it whose variables were seen since are told.
-    fn close(&mut self, place: Place, flag: bool, inside: Summary) -> Summary
+    fn close(&mut self, place: PartPlace, flag: bool, inside: Summary) -> Summary
         requires at { place.at < MOST_NODES }
         requires level { place.level < MOST_NODES }
         requires above { (open_at self.old.opens place.level).above < 2 ^ 31 }

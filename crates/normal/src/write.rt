@@ -2,16 +2,16 @@
 
 ghost use Rattle.std.specs.Prelude.{◌≡◌, ◌+◌, ◌<◌, ◌≤◌, ◌++◌, ◌∷◌, [], slice_index, vec_len, OnOk};
 ghost use Rattle.calculus.specs.View.{action_of, regular_of, formula_of};
-ghost use Rattle.forms.specs.Tree.{size, two, modal, loop_of, norm, Modality, Fixpoint, ConstantNode, JunctionNode, ModalityNode, FixpointNode};
-ghost use Rattle.forms.specs.View.{shape_of, nodes_of};
+ghost use Rattle.calculus.specs.NormalTree.{size, two, modal, loop_of, norm, Modality, Fixpoint, ConstantNode, JunctionNode, ModalityNode, FixpointNode};
+ghost use Rattle.calculus.specs.NodeView.{shape_of, nodes_of};
 ghost use Rattle.normal.specs.Part.{tree_of, binders_of};
 ghost use Rattle.normal.specs.Writes.{Writes};
 
 use crate::action::copied_action;
 use crate::part::{NumberedScope, Part, binder_of};
+use calculus::limits::MOST_NODES;
+use calculus::node::{Kind, Node};
 use calculus::tree::{Act, Reg, State};
-use forms::limits::MOST_NODES;
-use forms::node::{Kind, Node};
 use std::alloc::{AllocError, Global};
 
 fn constant(flag: bool) -> Kind

@@ -12,7 +12,7 @@ use Rattle.text.proofs.Plain.{plain, first_line, numeral, over, over_rest, space
 use Rattle.text.proofs.Spaced.{numeral_digits}
 use Rattle.systems.specs.Label.{is_label_byte}
 use Rattle.lts.proofs.Canonical.{label_bytes}
-use Rattle.forms.specs.declared.limits.TheConstants.{GREATEST_PRIORITY}
+use Rattle.calculus.specs.declared.limits.TheConstants.{GREATEST_PRIORITY}
 use Rattle.game.specs.declared.player.Player.{Player}
 use Rattle.game.specs.declared.player.Player.TheVariants.{Even, Odd}
 use Rattle.game.specs.declared.limits.TheConstants.{MOST_VERTICES}

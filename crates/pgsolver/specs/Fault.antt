@@ -1,7 +1,7 @@
 -- The fault of a text that spells no game.
 use Rattle.std.specs.Prelude.{◌≡◌, ℕ, ◌+◌, ◌<◌, ◌≤◌, ◌⊎◌, List, [], ◌∷◌, ◌++◌, length, Contains}
 use Rattle.text.specs.Text.{lines}
-use Rattle.forms.specs.declared.limits.TheConstants.{GREATEST_PRIORITY}
+use Rattle.calculus.specs.declared.limits.TheConstants.{GREATEST_PRIORITY}
 use Rattle.game.specs.declared.limits.TheConstants.{MOST_VERTICES}
 use Rattle.pgsolver.specs.Spelling.{VertexLine, IsPgHeader, IsLine, AreGoodLines}
 use Rattle.pgsolver.specs.declared.error.PgFault.{PgFault}

@@ -1,6 +1,6 @@
 -- What holds of all texts of games.
 use Rattle.std.specs.Prelude.{◌≡◌, ℕ, ◌≤◌, ◌⊎◌, List, length, None}
-use Rattle.forms.specs.declared.limits.TheConstants.{GREATEST_PRIORITY}
+use Rattle.calculus.specs.declared.limits.TheConstants.{GREATEST_PRIORITY}
 use Rattle.game.specs.Game.{Game, IsGame, greatest}
 use Rattle.pgsolver.specs.Canon.{game_text}
 use Rattle.pgsolver.specs.Spelling.{IsGameText}

@@ -6,7 +6,7 @@ use Rattle.text.specs.Text.{lines}
 use Rattle.text.specs.Lines.{IfKnown}
 use Rattle.text.specs.declared.error.ReadFault.{ReadFault}
 use Rattle.text.specs.declared.error.ReadFault.TheVariants as reads
-use Rattle.forms.specs.declared.limits.TheConstants.{GREATEST_PRIORITY}
+use Rattle.calculus.specs.declared.limits.TheConstants.{GREATEST_PRIORITY}
 use Rattle.game.specs.Game.{Vertex}
 use Rattle.pgsolver.specs.declared.error.PgFault.{PgFault}
 use Rattle.pgsolver.specs.declared.error.PgFault.TheVariants.{BadIdentifier, BadSuccessor, PriorityTooGreat}

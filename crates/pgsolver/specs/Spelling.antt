@@ -4,7 +4,7 @@ use Rattle.std.specs.Prelude.{nat_le, ◌&&◌, codes}
 use Rattle.std.specs.List.{AllZip, AllByRecursion, list_all}
 use Rattle.text.specs.Text.{lines, is_blank, IsNumeral, IsSpaced}
 use Rattle.systems.specs.Label.{is_label_byte}
-use Rattle.forms.specs.declared.limits.TheConstants.{GREATEST_PRIORITY}
+use Rattle.calculus.specs.declared.limits.TheConstants.{GREATEST_PRIORITY}
 use Rattle.game.specs.declared.limits.TheConstants.{MOST_VERTICES}
 use Rattle.game.specs.declared.player.Player.{Player}
 use Rattle.game.specs.Game.{Vertex, Game, vertex}

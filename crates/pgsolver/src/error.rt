@@ -47,8 +47,7 @@ impl From<AllocError> for PgError {
 
     ghost from_gives = { λ _ e. e ≡ errors.Memory };
 
-    fn from(error: AllocError) -> Self {
-        let _ = error;
+    fn from(_: AllocError) -> Self {
         PgError::Memory
     }
 }

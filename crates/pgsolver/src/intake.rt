@@ -7,7 +7,7 @@ ghost use Rattle.text.specs.declared.error.ReadFault.TheVariants as reads;
 ghost use Rattle.pgsolver.specs.Passes.{PassesVertex};
 ghost use Rattle.pgsolver.specs.Plain.{PassesPgAtHand};
 
-use crate::plain::{PlainLine, plain_line};
+use crate::plain::{PlainVertexLine, plain_line};
 use crate::scan::Head;
 use crate::tokens::by_tokens;
 use std::io::ErrorKind;
@@ -27,7 +27,7 @@ fn at_hand<B: Blocks>(reader: &mut B, targets: &mut Vec<u32>) -> Result<Option<H
     let Some(line) = plain_line(block, targets)? else {
         return Ok(None);
     };
-    let PlainLine { head, len } = line;
+    let PlainVertexLine { head, len } = line;
     reader.consume(len);
     Ok(Some(head))
 }

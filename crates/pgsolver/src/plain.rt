@@ -16,7 +16,7 @@ use text::scan::number_here;
 
 /// What such a line says before its successors, and how many bytes it has with its LF.
 #[derive(Clone, Copy)]
-pub(crate) struct PlainLine {
+pub(crate) struct PlainVertexLine {
     pub head: Head,
     pub len: usize,
 }
@@ -142,7 +142,7 @@ fn tail(bytes: &[u8]) -> Option<&[u8]>
 pub(crate) fn plain_line(
     block: &[u8],
     targets: &mut Vec<u32>,
-) -> Result<Option<PlainLine>, AllocError>
+) -> Result<Option<PlainVertexLine>, AllocError>
     ensures line { IfOk result (λ found. IfSome found (λ line. IsLineThen (line_said line.head targets.new.items) block.now (drop line.len block.now))) }
     ensures within { IfOk result (λ found. IfSome found (λ line. line.len ≤ length block.now)) }
 {
@@ -160,7 +160,7 @@ pub(crate) fn plain_line(
     let Some(rest) = tail(rest) else {
         return Ok(None);
     };
-    Ok(Some(PlainLine {
+    Ok(Some(PlainVertexLine {
         head,
         len: block.len() - rest.len(),
     }))

@@ -16,10 +16,10 @@ ghost use Rattle.pgsolver.specs.Left.{AreFilled, RefusesPg, BeginsGame, ArePlace
 
 use crate::error::{PgError, PgFault};
 use crate::intake::vertex;
-use crate::rows::{Rows, make_set, put_in_order};
+use crate::rows::{ReadVertices, make_set, put_in_order};
 use crate::scan::Head;
 use crate::tokens::header;
-use forms::limits::GREATEST_PRIORITY;
+use calculus::limits::GREATEST_PRIORITY;
 use game::graph::Game;
 use game::limits::MOST_VERTICES;
 use std::alloc::Global;
@@ -102,7 +102,7 @@ fn read_row<B: Blocks>(
     kept: &mut Vec<u8>,
     last: u32,
     good: u32,
-    rows: &mut Rows,
+    rows: &mut ReadVertices,
 ) -> Result<(), PgError>
     requires limit { last < MOST_VERTICES }
     requires due { good ≤ last }
@@ -154,7 +154,7 @@ fn read_rows<B: Blocks>(
     reader: &mut B,
     kept: &mut Vec<u8>,
     last: u32,
-    rows: &mut Rows,
+    rows: &mut ReadVertices,
 ) -> Result<(), PgError>
     requires limit { last < MOST_VERTICES }
     requires none { rows.old.vertices ≡ [] }
@@ -181,7 +181,7 @@ fn read_text<B: Blocks>(alloc: Global, reader: &mut B) -> Result<Game, PgError>
 {
     let mut kept = Vec::new(alloc);
     let last = read_first(reader, &mut kept)?;
-    let mut rows = Rows::new(alloc, last)?;
+    let mut rows = ReadVertices::new(alloc, last)?;
     read_rows(reader, &mut kept, last, &mut rows)?;
     let game = rows.vertices.into_game();
     Ok(put_in_order(alloc, game, &rows.places)?)

@@ -3,8 +3,8 @@ use Rattle.std.proofs.Common.{◌≡◌, ℕ, Bool, true, false, List, [], ◌�
 use Rattle.std.specs.Prelude.{Contains, ◌⊎◌}
 use Rattle.systems.specs.declared.system.Transition.{Transition}
 use Rattle.game.specs.declared.player.Player.{Player}
-use Rattle.forms.specs.Taken.{is_in}
-use Rattle.progress.proofs.Lists.{contains_cases, contains_first, contains_later, contains_none}
+use Rattle.calculus.specs.Taken.{is_in}
+use Rattle.measures.proofs.Lists.{contains_cases, contains_first, contains_later, contains_none}
 use Rattle.laws.proofs.Flags.{cases}
 use Rattle.rankings.specs.Slopes.{CanFollow, IsNoStep, StepsFollow}
 use Rattle.rankings.specs.declared.slope.Slopes.{Slopes}

@@ -4,7 +4,7 @@ use Rattle.std.proofs.lemmas.Bool.Decides.{eqb_tells}
 use Rattle.systems.specs.Path.{IsPath}
 use Rattle.game.specs.Game.{Game}
 use Rattle.game.specs.Wins.{greatest_met}
-use Rattle.progress.proofs.Cycles.{last_met, priority}
+use Rattle.measures.proofs.Cycles.{last_met, priority}
 
 module _ (g : Game) (R : ℕ → ℕ → Type 0) (key : ℕ → ℕ → ℕ) (Falls : ℕ → Type 0)
     (weakly : (u t p : ℕ) → R u t → priority g u ≤ p → key p t ≤ key p u)

@@ -3,8 +3,8 @@ use Rattle.std.proofs.Common.{◌≡◌, ℕ, ◌+◌, ◌*◌, ◌<◌, ◌≤�
 use Rattle.std.specs.Prelude.{Some, slice_get, ◌↔◌}
 use Rattle.systems.specs.System.{System}
 use Rattle.calculus.specs.Meaning.{MarksOf, marked}
-use Rattle.forms.specs.Form.{IsForm}
-use Rattle.forms.specs.Nodes.{Node}
+use Rattle.calculus.specs.Form.{IsForm}
+use Rattle.calculus.specs.Nodes.{Node}
 use Rattle.game.specs.declared.player.Player.TheVariants.{Even}
 use Rattle.game.specs.Arena.{arena, place, vertex_of}
 use Rattle.game.specs.Wins.{Wins}

@@ -5,8 +5,8 @@ use Rattle.std.proofs.lemmas.List.Elements.{All-from_recursion}
 use Rattle.std.proofs.lemmas.Option.{get_or_from_slice_get, slice_get_within}
 use Rattle.std.proofs.lemmas.Nat.{div-add-mod', div-mul-add, div_below, mod-mul-add, mod_below, mul-add-lt}
 use Rattle.systems.specs.System.{System}
-use Rattle.forms.specs.Form.{IsForm}
-use Rattle.forms.specs.Nodes.{Node}
+use Rattle.calculus.specs.Form.{IsForm}
+use Rattle.calculus.specs.Nodes.{Node}
 use Rattle.game.specs.declared.player.Player.TheVariants.{Even}
 use Rattle.game.specs.Game.{Game, IsVertex, Vertex, vertex}
 use Rattle.game.specs.Arena.{arena, place, vertex_of}

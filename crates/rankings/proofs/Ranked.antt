@@ -5,14 +5,14 @@ use Rattle.systems.specs.Numbered.{Numbered}
 use Rattle.systems.specs.System.{IsSystem}
 use Rattle.systems.specs.declared.system.Transition.{Transition}
 use Rattle.calculus.specs.Tree.{Action}
-use Rattle.forms.specs.Form.{IsNode, IsShape}
-use Rattle.forms.specs.Nodes.{Node}
-use Rattle.forms.specs.Tree.{ConstantNode, JunctionNode, ModalityNode}
+use Rattle.calculus.specs.Form.{IsNode, IsShape}
+use Rattle.calculus.specs.Nodes.{Node}
+use Rattle.calculus.specs.NormalTree.{ConstantNode, JunctionNode, ModalityNode}
 use Rattle.game.specs.declared.player.Player.{Player}
 use Rattle.game.specs.Arena.{or_else, owner_of, place, sink, successors_of, targets, vertex_of}
 use Rattle.game.specs.Game.{Vertex}
-use Rattle.forms.specs.Taken.{IsSetOf, is_in}
-use Rattle.progress.proofs.Lists.{contains_first, contains_later, contains_none}
+use Rattle.calculus.specs.Taken.{IsSetOf, is_in}
+use Rattle.measures.proofs.Lists.{contains_first, contains_later, contains_none}
 use Rattle.laws.proofs.Flags.{cases}
 use Rattle.laws.proofs.Lists.{in_map, of_map, of_two, only_in}
 use Rattle.rankings.specs.Cells.{Cells, cell, number_in, ranking_of}

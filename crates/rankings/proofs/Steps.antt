@@ -10,8 +10,8 @@ use Rattle.systems.specs.declared.system.Transition.{Transition}
 use Rattle.calculus.specs.Tree.{Action}
 use Rattle.calculus.specs.Holds.{holds}
 use Rattle.game.specs.Arena.{targets}
-use Rattle.forms.specs.Taken.{IsSetOf, is_in}
-use Rattle.progress.proofs.Lists.{contains_cases, contains_first, contains_later, contains_none}
+use Rattle.calculus.specs.Taken.{IsSetOf, is_in}
+use Rattle.measures.proofs.Lists.{contains_cases, contains_first, contains_later, contains_none}
 use Rattle.laws.proofs.Flags.{cases, same_true}
 use Rattle.laws.proofs.Lists.{in_map, of_map}
 use Rattle.laws.proofs.Targets.{leads_target, target_leads}

@@ -7,8 +7,8 @@ use Rattle.game.specs.declared.player.Player.{Player}
 use Rattle.game.specs.declared.player.Player.TheVariants.{Even, Odd}
 use Rattle.game.specs.Game.{Game, Vertex, opponent, vertex}
 use Rattle.game.specs.Wins.{Edge, IsOf, WinsBy, greatest_met, priority_at}
-use Rattle.progress.proofs.Cycles.{odd_or_even, priority}
-use Rattle.progress.proofs.NotBoth.{not_both_win}
+use Rattle.measures.proofs.Cycles.{odd_or_even, priority}
+use Rattle.measures.proofs.NotBoth.{not_both_win}
 use Rattle.laws.proofs.Flags.{above_false, and_true, below_or_not, below_true, both}
 use Rattle.laws.proofs.Paths.{path_into}
 use Rattle.rankings.specs.Laws.{LeadsInside, RankingDecides, RankingWins}

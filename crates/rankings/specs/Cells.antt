@@ -4,8 +4,8 @@ use Rattle.game.specs.declared.player.Player.{Player}
 use Rattle.game.specs.declared.player.Player.TheVariants.{Even, Odd}
 use Rattle.rankings.specs.Columns.{kept_number}
 use Rattle.rankings.specs.Ranking.{Ranking}
-use Rattle.columns.specs.declared.column.Column.{Column}
-use Rattle.columns.specs.declared.column.Column.TheVariants.{Same}
+use Rattle.game.specs.declared.column.Column.{Column}
+use Rattle.game.specs.declared.column.Column.TheVariants.{Same}
 
 -- columns of numbers with the lists that they share, and the shifts of both players by priority
 pub record Cells : Type 0 where

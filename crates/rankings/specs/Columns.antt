@@ -1,10 +1,10 @@
 -- The numbers of columns.
 use Rattle.std.specs.Prelude.{ℕ, ◌+◌, ◌*◌, ◌%◌, ◌/◌, ◌^◌, Bool, List, [], if◌then◌else◌, ◌==◌, slice_index_or}
-use Rattle.columns.specs.declared.column.Column.{Column}
-use Rattle.columns.specs.declared.column.Column.TheVariants as kept
+use Rattle.game.specs.declared.column.Column.{Column}
+use Rattle.game.specs.declared.column.Column.TheVariants as kept
 use Rattle.rankings.specs.declared.column.Numbers.{Numbers}
 use Rattle.rankings.specs.declared.column.Numbers.TheVariants as lent
-use Rattle.rankings.specs.declared.column.Shown.{Shown}
+use Rattle.rankings.specs.declared.column.ColumnView.{ColumnView}
 
 -- whether the mark of a state is set, where the marks begin with this word
 abbrev pub is_state_marked : List ℕ → ℕ → ℕ → Bool
@@ -21,7 +21,7 @@ kept_number marks counts words (kept.Same n) = λ s. n
 kept_number marks counts words (kept.Won x) =
     won_by marks x.marks x.even x.odd x.unit (slice_index_or counts x.counts []) (slice_index_or words x.words [])
 
-abbrev pub won_at : Shown → ℕ → ℕ
+abbrev pub won_at : ColumnView → ℕ → ℕ
 won_at x = won_by x.marks.now x.first x.even x.odd x.unit x.counts.now x.words.now
 
 -- and of one that is lent

@@ -4,7 +4,7 @@ use Rattle.game.specs.declared.player.Player.{Player}
 use Rattle.game.specs.declared.player.Player.TheVariants.{Even, Odd}
 use Rattle.game.specs.Game.{Game, Vertex, opponent, vertex}
 use Rattle.game.specs.Wins.{IsOf}
-use Rattle.progress.specs.Measure.{is_odd}
+use Rattle.measures.specs.Measure.{is_odd}
 
 -- A number for each vertex, and for each player and each priority how many of the lowest bits of numbers don't count there.
 pub record Ranking : Type 0 where

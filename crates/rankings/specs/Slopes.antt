@@ -5,7 +5,7 @@ use Rattle.systems.specs.Numbered.{IsInside, Numbered, arrow_of, arrows_from}
 use Rattle.systems.specs.declared.system.Transition.{Transition}
 use Rattle.game.specs.declared.player.Player.{Player}
 use Rattle.game.specs.declared.player.Player.TheVariants.{Even, Odd}
-use Rattle.forms.specs.Taken.{is_in}
+use Rattle.calculus.specs.Taken.{is_in}
 use Rattle.game.specs.Wins.{IsOf}
 use Rattle.rankings.specs.declared.slope.Slope.{Slope}
 use Rattle.rankings.specs.declared.slope.Slopes.{Slopes}

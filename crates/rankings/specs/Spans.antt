@@ -1,7 +1,7 @@
 -- Spans of states.
 use Rattle.std.specs.Prelude.{◌≡◌, ℕ, ◌<◌, ◌≤◌, List, Some, length, slice_get}
 use Rattle.systems.specs.Numbered.{Numbered}
-use Rattle.forms.specs.Nodes.{Node}
+use Rattle.calculus.specs.Nodes.{Node}
 use Rattle.game.specs.Arena.{vertex_of}
 use Rattle.rankings.specs.Cells.{Cells, cell, ranking_of}
 use Rattle.rankings.specs.Ranking.{IsRanked}

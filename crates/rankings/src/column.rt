@@ -2,7 +2,7 @@
 
 /// The numbers of a node, with their lists.
 #[derive(Clone, Copy)]
-pub(crate) struct Shown<'a> {
+pub(crate) struct ColumnView<'a> {
     pub(crate) marks: &'a [u64],
     pub(crate) first: u32,
     pub(crate) even: u64,
@@ -16,5 +16,5 @@ pub(crate) struct Shown<'a> {
 #[derive(Clone, Copy)]
 pub(crate) enum Numbers<'a> {
     Same(u64),
-    Won(Shown<'a>),
+    Won(ColumnView<'a>),
 }

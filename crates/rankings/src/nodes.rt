@@ -2,10 +2,10 @@
 
 ghost use Rattle.std.specs.Prelude.{◌≡◌, ◌<◌, ◌≤◌, ◌↔◌, ℕ, IsTrue, false, length, slice_index_or};
 ghost use Rattle.std.specs.List.{AllByRecursion};
-ghost use Rattle.forms.specs.Form.{IsNode};
-ghost use Rattle.forms.specs.View.{node_of, shape_of};
+ghost use Rattle.calculus.specs.Form.{IsNode};
+ghost use Rattle.calculus.specs.NodeView.{node_of, shape_of};
 ghost use Rattle.game.specs.Arena.{vertex_of};
-ghost use Rattle.forms.specs.Taken.{IsSetFor};
+ghost use Rattle.calculus.specs.Taken.{IsSetFor};
 ghost use Rattle.rankings.specs.Cells.{cell, ranking_of};
 ghost use Rattle.rankings.specs.Columns.{number_at};
 ghost use Rattle.rankings.specs.Ranking.{IsRanked, winner_of};
@@ -15,7 +15,7 @@ use crate::column::Numbers;
 use crate::sheet::Sheet;
 use crate::slope::Slopes;
 use crate::slopes::winner;
-use forms::node::{Kind, Node};
+use calculus::node::{Kind, Node};
 use game::player::Player;
 use systems::system::{Lts, Transition};
 
@@ -257,6 +257,7 @@ pub(crate) fn is_ranked(
     ensures { IsTrue result → (s : ℕ) → span.first ≤ s → s < span.end
         → IsRanked (ranking_of sheet.now) (cell sheet.now number s) (vertex_of lts.now.system (length sheet.now.nodes) s (node_of node.now)) }
 {
+    // For the proof: the clauses of this call say what the system has.
     let _states = lts.states();
     let slopes = sheet.slopes(node.priority);
     let own = sheet.column(number);

@@ -3,8 +3,8 @@
 ghost use Rattle.std.specs.Prelude.{◌≡◌, [], if◌then◌else◌, map, slice_index_or};
 ghost use Rattle.rankings.specs.Columns.{is_state_marked, number_at, kept_number, won_at};
 
-use crate::column::{Numbers, Shown};
-use columns::column::{Column, Columns, Marked};
+use crate::column::{ColumnView, Numbers};
+use game::column::{Column, Columns, Marked};
 
 // A list, by its place, or none.
 fn list<T>(lists: &[Vec<T>], place: u32) -> &[T]
@@ -25,7 +25,7 @@ fn has_mark(marks: &[u64], first: u32, state: u32) -> bool
     (word.copied().unwrap_or(0) >> (state % 64)) % 2 == 1
 }
 
-impl Shown<'_> {
+impl ColumnView<'_> {
     // The number of whoever is said to win a state.
     #[inline(always)]
     fn base(self, state: u32) -> u64
@@ -63,13 +63,13 @@ impl Numbers<'_> {
 }
 
 // The numbers of whoever is said to win, with their lists.
-fn shown(columns: &Columns, marked: Marked) -> Shown<'_>
+fn shown(columns: &Columns, marked: Marked) -> ColumnView<'_>
     ensures { won_at result ≡ kept_number columns.now.marks.items (map (λ list. list.items) columns.now.counts.items) (map (λ list. list.items) columns.now.words.items)
         (Column.Won marked) }
 {
     let counts = list(&columns.counts, marked.counts);
     let words = list(&columns.words, marked.words);
-    Shown {
+    ColumnView {
         marks: columns.marks.as_slice(),
         first: marked.marks,
         even: marked.even,

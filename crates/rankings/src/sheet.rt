@@ -9,7 +9,7 @@ use crate::column::Numbers;
 use crate::numbers::numbers;
 use crate::slope::{Slope, Slopes};
 use crate::slopes::is_of;
-use columns::column::Columns;
+use game::column::Columns;
 use game::player::Player;
 use std::marker::Model;
 
@@ -90,6 +90,7 @@ impl Sheet {
     pub fn known(&self)
         ensures { IsRising (ranking_of self.now) }
     {
+        // For the proof: reading a field makes the invariant known.
         let _ = &self.columns;
     }
 

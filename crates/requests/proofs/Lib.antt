@@ -3,3 +3,4 @@ pub mod Readings
 mod Words
 pub mod Orders
 pub mod Caused
+mod Lines

@@ -1,7 +1,7 @@
 -- What was read, and why it was not.
-use Rattle.std.proofs.Common.{◌≡◌, ℕ, List, Some, Ok, Err, subst, sym}
+use Rattle.std.proofs.Common.{◌≡◌, ◌∙◌, ℕ, List, Some, Ok, Err, ap, refl, subst, sym}
 use Rattle.std.specs.Prelude.{IfSome, IfOk, IfErr, IsErrAnd, MatchResult, Option, Result}
-use Rattle.std.proofs.lemmas.Result.{IfOk-weaker}
+use Rattle.std.proofs.lemmas.Result.{IfOk-at_ok, IfOk-weaker}
 use Rattle.systems.specs.System.{System}
 use Rattle.lts.specs.Aut.{IsAut}
 use Rattle.calculus.specs.Tree.{Formula}
@@ -48,14 +48,15 @@ unread_of way first second writers (error.Table e) spelled h kept = absurd h
 unread_of way first second writers (error.Solve e) spelled h kept = absurd h
 unread_of way first second writers (error.Write e) spelled h kept = absurd h
 
-ok_same : {T : Type 0} → (x y : T) → ◌≡◌ {A = Result T MuError} (Ok x) (Ok y) → x ≡ y
-ok_same x y h = cc
+-- An answer where errors were turned into others was one before.
+pub was_ok : {T E : Type 0} → (r : Result T E) (x : T) → MatchResult r (λ y. ◌≡◌ {A = Result T MuError} (Ok x) (Ok y)) (λ e. ⊥) → r ≡ Ok x
+was_ok (Ok y) x h = cc
+was_ok (Err e) x h = absurd h
 
 -- What holds of an answer holds of it too where errors were turned into others.
 pub ok_before : {T E : Type 0} → (r : Result T E) (x : T) (P : T → Type 0) → MatchResult r (λ y. ◌≡◌ {A = Result T MuError} (Ok x) (Ok y)) (λ e. ⊥)
     → IfOk r P → P x
-ok_before (Ok y) x P h p = subst P (sym (ok_same x y h)) p
-ok_before (Err e) x P h p = absurd h
+ok_before r x P h p = IfOk-at_ok P (was_ok r x h) p
 
 pub ok_after : {T E : Type 0} → (Q : E → MuError → Type 0) (r : Result T E) (s : Result T MuError) (P : T → Type 0)
     → MatchResult r (λ x. s ≡ Ok x) (λ e. IsErrAnd s (Q e)) → IfOk r P → IfOk s P
@@ -80,3 +81,15 @@ pub err_after : {T E : Type 0} → (make : E → MuError) (r : Result T E) (s : 
 err_after make (Ok x) s P h p = subst (λ y. IfErr y P) (sym h) tt
 err_after make (Err e) (Ok x) P h p = absurd h
 err_after make (Err e) (Err d) P h p = subst P (sym h) p
+
+-- What a refusal that is handed on was.
+pub was_err : {T E : Type 0} → (r : Result T E) (e : E) → IsErrAnd r (λ x. x ≡ e) → r ≡ Err e
+was_err (Ok x) e h = absurd h
+was_err (Err x) e h = ap Err h
+
+-- The same where errors were turned into others.
+pub was_turned : {T U E : Type 0} → (make : E → MuError) (r : Result T E) (e : MuError) (s : Result U MuError)
+    → MatchResult r (λ x. ◌≡◌ {A = Result T MuError} (Err e) (Ok x)) (λ d. e ≡ make d) → IsErrAnd s (λ y. y ≡ e)
+    → (d : E) × (r ≡ Err d) × (s ≡ Err (make d))
+was_turned make (Ok x) e s h k = absurd (cc)
+was_turned make (Err d) e s h k = (d, refl, was_err s e k ∙ ap Err h)

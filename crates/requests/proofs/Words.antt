@@ -2,7 +2,7 @@
 use Rattle.std.proofs.Common.{◌≡◌, ℕ, List, Bool, false, Some, None, Ok, Err, inl, inr, refl, subst, sym, ◌∙◌, true≢false}
 use Rattle.std.specs.Prelude.{IfOk, IfErr, IsTrue, MatchResult, Result}
 use Rattle.calculus.specs.Closed.{closed_formula}
-use Rattle.hints.specs.Absent.{IsFirstAbsent}
+use Rattle.formula.specs.Absent.{IsFirstAbsent}
 use Rattle.requests.specs.declared.error.MuError.{MuError}
 use Rattle.requests.specs.declared.error.MuError.TheVariants as error
 use Rattle.requests.specs.declared.texts.Texts.{Texts}

@@ -8,11 +8,11 @@ use Rattle.lts.specs.Left.{RefusesAut}
 use Rattle.calculus.specs.Tree.{Formula}
 use Rattle.calculus.specs.Meaning.{MarksOf, Satisfies}
 use Rattle.formula.specs.Checked.{IsTold}
-use Rattle.forms.specs.declared.limits.TheConstants.{MOST_NODES, GREATEST_PRIORITY}
-use Rattle.forms.specs.declared.priorities.Priorities.{Priorities}
-use Rattle.forms.specs.Tree.{node_count}
-use Rattle.forms.specs.Nodes.{greatest_node_priority}
-use Rattle.forms.specs.Rules.{nodes_with}
+use Rattle.calculus.specs.declared.limits.TheConstants.{MOST_NODES, GREATEST_PRIORITY}
+use Rattle.calculus.specs.declared.priorities.Priorities.{Priorities}
+use Rattle.calculus.specs.NormalTree.{node_count}
+use Rattle.calculus.specs.Nodes.{greatest_node_priority}
+use Rattle.calculus.specs.Rules.{nodes_with}
 use Rattle.normal.specs.Refused as normal
 use Rattle.game.specs.declared.limits.TheConstants.{MOST_VERTICES}
 use Rattle.game.specs.Refused as game

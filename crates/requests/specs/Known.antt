@@ -1,7 +1,7 @@
 -- Whether each word of a formula's text is on a transition, where that is asked about.
 use Rattle.std.specs.Prelude.{ℕ, Bool, List, Some, None, IsTrue}
 use Rattle.systems.specs.System.{System}
-use Rattle.hints.specs.Absent.{IsFirstAbsent}
+use Rattle.formula.specs.Absent.{IsFirstAbsent}
 
 -- Where that is asked for, each word of the text is on a transition of the system.
 abbrev pub AreKnown : (strict : Bool) → System → (text : List ℕ) → Type 0

@@ -9,3 +9,4 @@ pub mod Roots
 pub mod Solver
 pub mod Strict
 pub mod Known
+pub mod Status

@@ -7,10 +7,10 @@ ghost use Rattle.requests.specs.Check.{IsArenaOf};
 
 use crate::error::MuError;
 use calculus::closed::Closed;
-use forms::priorities::Priorities;
+use calculus::priorities::Priorities;
 use game::build::build_seen;
+use game::gauge::Gauge;
 use game::graph::Game;
-use gauge::Gauge;
 use lts::system::Lts;
 use normal::make::normal_with;
 use std::alloc::Global;

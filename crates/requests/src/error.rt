@@ -1,5 +1,8 @@
 // Why the program gave no answer.
 
+ghost use Rattle.std.specs.Prelude.{◌≡◌};
+ghost use Rattle.requests.specs.declared.error.MuError.TheVariants as errors;
+
 use evidence::error::EvidenceError;
 use formula::error::FormulaError;
 use game::error::BuildError;
@@ -8,8 +11,10 @@ use lts::WriteFault;
 use lts::error::AutError;
 use normal::error::NormalError;
 use pgsolver::error::PgError;
+use std::alloc::{AllocError, AllocFailed};
 use std::fmt;
 use tables::error::TableError;
+use text::Memory;
 use thiserror::Error;
 use workers::error::SolveError;
 
@@ -123,4 +128,28 @@ pub enum MuError {
     /// A write failed.
     #[error("{0}")]
     Write(WriteFault),
+}
+
+impl From<Memory> for MuError {
+    ghost from_gives = { λ _ e. e ≡ errors.Memory };
+
+    fn from(_: Memory) -> Self {
+        MuError::Memory
+    }
+}
+
+impl From<AllocError> for MuError {
+    ghost from_gives = { λ _ e. e ≡ errors.Memory };
+
+    fn from(_: AllocError) -> Self {
+        MuError::Memory
+    }
+}
+
+impl<T: Drop> From<AllocFailed<T>> for MuError {
+    ghost from_gives = { λ _ e. e ≡ errors.Memory };
+
+    fn from(_: AllocFailed<T>) -> Self {
+        MuError::Memory
+    }
 }

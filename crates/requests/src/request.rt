@@ -2,7 +2,7 @@
 
 ghost use Rattle.std.specs.Prelude.{◌≡◌, ◌≤◌, ◌↔◌, None, IsTrue, false};
 
-use forms::priorities::Priorities;
+use calculus::priorities::Priorities;
 pub use workers::team::BoardKind;
 
 /// The rule of priorities, and workers, locked shards and board.

@@ -11,9 +11,9 @@ ghost use Rattle.requests.specs.Solver.{FitsBoard, IsUnsolved};
 
 use crate::error::MuError;
 use crate::request::Options;
-use certify::decide::certified_winners;
+use evidence::decide::certified_winners;
 use game::graph::Game;
-use measures::observer::{Observer, Stage};
+use game::observer::{Observer, Stage};
 use measures::settle::even_wins;
 use measures::table::Settled;
 use std::alloc::{AllocError, Global};
@@ -91,13 +91,8 @@ pub fn winners_by<O: Observer + Sync, R: Threads + Wait + Clone + Copy + Drop + 
             return Ok(marks);
         }
     }
-    match solve_seen(rt, alloc, game, options, &NoGate, observer, None) {
-        Ok(settled) => match marks_of(alloc, game, &settled) {
-            Ok(marks) => Ok(marks),
-            Err(AllocError) => Err(MuError::Memory),
-        },
-        Err(error) => Err(error),
-    }
+    let settled = solve_seen(rt, alloc, game, options, &NoGate, observer, None)?;
+    Ok(marks_of(alloc, game, &settled)?)
 }
 
 // A mark for each vertex of a solved game, true where Even wins it.

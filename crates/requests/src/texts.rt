@@ -9,18 +9,18 @@ ghost use Rattle.requests.specs.Texts.{IsFormulaOf, IsReadRefusal, IsReadFault, 
 ghost use Rattle.requests.specs.Check.{Way, BySets, AreSpelled, RefusesCheck, IsErrorOf};
 ghost use Rattle.requests.specs.Known.{AreKnown};
 ghost use Rattle.requests.specs.Strict.{HasRefusedBy, IsLookRefusal, MayComeFirst, KnowsWords};
-ghost use Rattle.hints.specs.Absent.{IsFirstAbsent};
+ghost use Rattle.formula.specs.Absent.{IsFirstAbsent};
 ghost use Rattle.requests.specs.Writers.{AreKept, Lent};
 
 use crate::error::MuError;
 use crate::watch::Watcher;
 use calculus::closed::Closed;
+use formula::absent::first_absent;
 use formula::limits::LONGEST_TEXT;
 use formula::parse;
-use hints::absent::first_absent;
+use game::observer::{Silent, Stage};
 use lts::reader::read_aut;
 use lts::system::Lts;
-use measures::observer::{Silent, Stage};
 use std::alloc::Global;
 use std::hash::BuildHasher;
 use std::io::Read;
@@ -39,14 +39,14 @@ pub struct Texts {
 
 /// A formula that was read, and its text.
 #[derive(Drop)]
-struct Spelled {
+struct FormulaWithText {
     formula: Closed,
     text: Vec<u8>,
 }
 
 /// Both texts, read, and that of the formula as it stands.
 #[derive(Drop)]
-struct Reading {
+struct TextsWithFormulaText {
     texts: Texts,
     text: Vec<u8>,
 }
@@ -68,10 +68,8 @@ pub fn read_both<L: BuildHasher + Drop, R: Source + Drop, S: Source + Drop>(
     ensures plain { IfErr result (IsErrorOf BySets) }
     ensures cause { IfErr result (HaveCauses R.can_fail S.can_fail) }
 {
-    match read_all(alloc, hasher, aut, formula, &Silent) {
-        Ok(reading) => Ok(texts_of(reading)),
-        Err(error) => Err(error),
-    }
+    let reading = read_all(alloc, hasher, aut, formula, &Silent)?;
+    Ok(texts_of(reading))
 }
 
 /// Reads both as `read_both` does, and tells a watcher that the system is read, that the formula is, and what both are. Where it is strict, it
@@ -95,27 +93,21 @@ pub fn read_asked<L: BuildHasher + Drop, R: Source + Drop, S: Source + Drop, O: 
         → (way : Way) (writers : List Lent) → AreKept writers → IfErr result (HasRefusedBy strict way first second writers) }
     ensures cause { IfErr result (HaveCauses R.can_fail S.can_fail) }
 {
-    match read_all(alloc, hasher, aut, formula, observer) {
-        Ok(reading) => {
-            if strict {
-                strictly(alloc, reading)
-            } else {
-                Ok(texts_of(reading))
-            }
-        }
-        Err(error) => Err(error),
+    let reading = read_all(alloc, hasher, aut, formula, observer)?;
+    if strict {
+        strictly(alloc, reading)
+    } else {
+        Ok(texts_of(reading))
     }
 }
 
 /// Both, where each word of the formula is on a transition.
-fn strictly(alloc: Global, reading: Reading) -> Result<Texts, MuError>
+fn strictly(alloc: Global, reading: TextsWithFormulaText) -> Result<Texts, MuError>
     ensures { let l = reading.texts.system.system in MatchResult result
         (λ texts. (texts ≡ reading.texts) × IsFirstAbsent l reading.text.items None) (IsLookRefusal l reading.text.items) }
 {
-    match look(alloc, &reading.texts.system, &reading.text) {
-        Ok(()) => Ok(texts_of(reading)),
-        Err(error) => Err(error),
-    }
+    look(alloc, &reading.texts.system, &reading.text)?;
+    Ok(texts_of(reading))
 }
 
 /// Where that is asked for, looks for a word of a formula's text that is on no transition.
@@ -145,10 +137,10 @@ fn look(alloc: Global, system: &Lts, text: &[u8]) -> Result<(), MuError>
     }
 }
 
-fn texts_of(reading: Reading) -> Texts
+fn texts_of(reading: TextsWithFormulaText) -> Texts
     ensures { result ≡ reading.texts }
 {
-    let Reading { texts, text: _ } = reading;
+    let TextsWithFormulaText { texts, text: _ } = reading;
     texts
 }
 
@@ -159,7 +151,7 @@ fn read_all<L: BuildHasher + Drop, R: Source + Drop, S: Source + Drop, O: Watche
     aut: R,
     formula: S,
     observer: &O,
-) -> Result<Reading, MuError>
+) -> Result<TextsWithFormulaText, MuError>
     ensures spelled { (first second : List ℕ) → R.remaining aut ≡ Some first → S.remaining formula ≡ Some second
         → IfOk result (λ r. AreSpelled first second r.texts.system.system (closed_formula r.texts.formula)) }
     ensures text { (second : List ℕ) → S.remaining formula ≡ Some second → IfOk result (λ r. r.text.items ≡ second) }
@@ -174,9 +166,9 @@ fn read_all<L: BuildHasher + Drop, R: Source + Drop, S: Source + Drop, O: Watche
     observer.sees(Stage::ReadingFormula);
     let spelled = read_spelled(alloc, formula)?;
     observer.has_read(&system, &spelled.formula);
-    let Spelled { formula, text } = spelled;
+    let FormulaWithText { formula, text } = spelled;
     let texts = Texts { system, formula };
-    Ok(Reading { texts, text })
+    Ok(TextsWithFormulaText { texts, text })
 }
 
 /// Reads a formula. Of a text that is too long no more is read than shows it.
@@ -189,21 +181,19 @@ pub fn read_formula<S: Source + Drop>(alloc: Global, formula: S) -> Result<Close
     ensures fault { IfErr result IsReadingRefusal }
     ensures cause { IfErr result (HasCause S.can_fail error.Read) }
 {
-    match read_spelled(alloc, formula) {
-        Ok(spelled) => Ok(spelled_formula(spelled)),
-        Err(error) => Err(error),
-    }
+    let spelled = read_spelled(alloc, formula)?;
+    Ok(spelled_formula(spelled))
 }
 
-fn spelled_formula(spelled: Spelled) -> Closed
+fn spelled_formula(spelled: FormulaWithText) -> Closed
     ensures { result ≡ spelled.formula }
 {
-    let Spelled { formula, text: _ } = spelled;
+    let FormulaWithText { formula, text: _ } = spelled;
     formula
 }
 
 /// Reads a formula, and keeps its text.
-fn read_spelled<S: Source + Drop>(alloc: Global, formula: S) -> Result<Spelled, MuError>
+fn read_spelled<S: Source + Drop>(alloc: Global, formula: S) -> Result<FormulaWithText, MuError>
     ensures spelled { IfOk result (λ s. IfSome (S.remaining formula) (λ text. IsFormulaOf text (closed_formula s.formula))) }
     ensures text { IfOk result (λ s. IfSome (S.remaining formula) (λ text. s.text.items ≡ text)) }
     ensures refusal { (text : List ℕ) → S.remaining formula ≡ Some text → IfErr result (IsReadRefusal text) }
@@ -211,13 +201,11 @@ fn read_spelled<S: Source + Drop>(alloc: Global, formula: S) -> Result<Spelled, 
     ensures cause { IfErr result (HasCause S.can_fail error.Read) }
 {
     let front = read_front(alloc, formula)?;
-    match parse_front(alloc, &front) {
-        Ok(formula) => Ok(Spelled {
-            formula,
-            text: front,
-        }),
-        Err(error) => Err(error),
-    }
+    let formula = parse_front(alloc, &front)?;
+    Ok(FormulaWithText {
+        formula,
+        text: front,
+    })
 }
 
 /// The formula that a text spells, of which this is all, or what `read_front` answers of it.

@@ -1,8 +1,8 @@
 // What a check tells of itself while it runs.
 
 use calculus::closed::Closed;
+use game::observer::{Observer, Silent};
 use lts::system::Lts;
-use measures::observer::{Observer, Silent};
 
 /// Is told what a check is doing, and what it has read. Nothing that a check promises rests on what a watcher does.
 pub trait Watcher: Observer {

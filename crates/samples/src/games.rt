@@ -10,7 +10,7 @@ use std::sync::Arc;
 use std::thread::Threads;
 
 /// A vertex: its owner, its priority and its successors.
-pub type Row = (Player, u8, &'static [u32]);
+pub type GameRow = (Player, u8, &'static [u32]);
 
 /// One more vertex. A builder that is full has no room for it.
 pub fn push_row(
@@ -26,7 +26,7 @@ pub fn push_row(
 }
 
 /// The game of these vertices, if they make one.
-pub fn made(rt: &impl AllocGlobal, rows: &[Row]) -> Result<Option<Game>, AllocError> {
+pub fn made(rt: &impl AllocGlobal, rows: &[GameRow]) -> Result<Option<Game>, AllocError> {
     let mut builder = GameBuilder::new(rt.alloc());
     for (owner, priority, successors) in rows {
         push_row(&mut builder, *owner, *priority, successors)?;
@@ -35,12 +35,12 @@ pub fn made(rt: &impl AllocGlobal, rows: &[Row]) -> Result<Option<Game>, AllocEr
 }
 
 /// The game of these vertices, which make one, where memory suffices.
-pub fn game_of_rows(rt: &impl AllocGlobal, rows: &[Row]) -> Option<Game> {
+pub fn game_of_rows(rt: &impl AllocGlobal, rows: &[GameRow]) -> Option<Game> {
     made(rt, rows).ok()?
 }
 
 /// The game of these vertices, to be shared, where they make one and memory suffices.
-pub fn shared_game_of(rt: &impl AllocGlobal, rows: &[Row]) -> Option<Arc<Game>> {
+pub fn shared_game_of(rt: &impl AllocGlobal, rows: &[GameRow]) -> Option<Arc<Game>> {
     Arc::new(rt.alloc(), game_of_rows(rt, rows)?).ok()
 }
 

@@ -5,13 +5,13 @@ use std::io::Read;
 
 /// A reader that hands out so many bytes at a time, and then fails or ends.
 #[derive(Drop)]
-pub struct Slow<'a> {
+pub struct SlowReader<'a> {
     pub left: &'a [u8],
     pub step: usize,
     pub fails: bool,
 }
 
-impl Read for Slow<'_> {
+impl Read for SlowReader<'_> {
     fn read(&mut self, buf: &mut [u8]) -> io::Result<usize> {
         if self.left.is_empty() && self.fails {
             return Err(io::Error::from(io::ErrorKind::BrokenPipe));

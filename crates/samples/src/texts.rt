@@ -1,7 +1,7 @@
 // Texts of systems and formulas, and what they are read as.
 
 use calculus::closed::Closed;
-use forms::form::Normal;
+use calculus::form::Normal;
 use formula::error::FormulaError;
 use formula::parse;
 use lts::{AutError, Lts, read_aut};

@@ -2,19 +2,19 @@
 // claims something of it. One that has many lists is given to `drop` where it ends, which lets all of them go in one step of a proof.
 
 ghost use Rattle.std.specs.Prelude.{◌≡◌, ◌≤◌, true};
-ghost use Rattle.forms.specs.Normal.{normal_nodes};
+ghost use Rattle.calculus.specs.Normal.{normal_nodes};
 ghost use Rattle.game.specs.Arena.{arena};
 ghost use Rattle.game.specs.Game.{greatest};
 
 use calculus::closed::Closed;
-use forms::form::Normal;
-use forms::limits::GREATEST_PRIORITY;
+use calculus::form::Normal;
+use calculus::limits::GREATEST_PRIORITY;
 use game::build::build;
 use game::graph::Game;
 use lts::Lts;
 use normal::make::normal;
-use samples::games::{Row, game_of_rows};
-use samples::readers::Slow;
+use samples::games::{GameRow, game_of_rows};
+use samples::readers::SlowReader;
 use samples::texts::{parsed_formula, repeated_text, system_read};
 use samples::writers::{AtEnd, Narrow};
 use std::process::Abort;
@@ -104,7 +104,7 @@ pub(crate) fn game_of(
 }
 
 /// The game of these rows.
-pub(crate) fn game_by_hand(rt: &(impl Abort + AllocGlobal), rows: &[Row]) -> Game {
+pub(crate) fn game_by_hand(rt: &(impl Abort + AllocGlobal), rows: &[GameRow]) -> Game {
     game_of_rows(rt, rows).expect(rt, "a game")
 }
 
@@ -130,17 +130,17 @@ pub(crate) fn push_step(rt: &impl Abort, text: &mut String, source: u32, label: 
 }
 
 /// A reader that hands out so many bytes of a text at a time.
-pub(crate) fn slow(text: &[u8], step: usize) -> Slow<'_> {
-    Slow {
+pub(crate) fn slow(text: &[u8], step: usize) -> SlowReader<'_> {
+    SlowReader {
         left: text,
         step,
         fails: false,
     }
 }
 
-/// The same with so many bytes of the text, after which it fails.
-pub(crate) fn failing(text: &[u8], step: usize, given: usize) -> Slow<'_> {
-    Slow {
+/// A reader that hands out so many bytes of a text, some at a time, and then fails.
+pub(crate) fn failing(text: &[u8], step: usize, given: usize) -> SlowReader<'_> {
+    SlowReader {
         left: &text[..given.min(text.len())],
         step,
         fails: true,

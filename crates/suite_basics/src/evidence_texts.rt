@@ -13,7 +13,7 @@ use game::dual::greatest_priority;
 use game::graph::Game;
 use measures::settle::solve_one;
 use measures::table::Settled;
-use samples::readers::Slow;
+use samples::readers::SlowReader;
 use samples::texts::RING;
 use samples::writers::{AMPLE, Narrow};
 use std::alloc::{AllocError, Global};
@@ -159,7 +159,7 @@ fn told(alloc: Global, read: &Result<Evidence, EvidenceError>) -> Result<String,
 fn read_by(
     rt: &impl AllocGlobal,
     game: &Game,
-    reader: Slow<'_>,
+    reader: SlowReader<'_>,
 ) -> Result<Evidence, EvidenceError> {
     read_evidence(rt.alloc(), reader, game)
 }
@@ -258,7 +258,7 @@ fn is_read_by(rt: &(impl Abort + AllocGlobal), game: &Game, step: usize) {
     drop(evidence);
 }
 
-// The same evidence is read by whatever pieces.
+// What evidence is read doesn't depend on the pieces in which it comes.
 #[test]
 fn evidence_is_read_by_pieces(rt: HostRuntime) {
     let game = game_of_formula(&rt, OFTEN_A);

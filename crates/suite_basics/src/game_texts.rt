@@ -7,7 +7,7 @@ use crate::common::{
 use game::graph::Game;
 use game::player::Player;
 use pgsolver::{read_game, write_game};
-use samples::games::Row;
+use samples::games::GameRow;
 use samples::readers::Halting;
 use samples::writers::{AtEnd, Narrow};
 use std::alloc::{AllocError, Global};
@@ -190,7 +190,7 @@ fn names_are_written_and_not_read(rt: HostRuntime) {
     is_shown(&rt, "no names", NAMED.as_bytes(), nameless);
 }
 
-static ROWS: [Row; 2] = [(Player::Even, 0, &[1]), (Player::Odd, 1, &[0])];
+static ROWS: [GameRow; 2] = [(Player::Even, 0, &[1]), (Player::Odd, 1, &[0])];
 
 // A writer without room for the whole text is given a beginning, and a fault is told.
 fn is_cut(rt: &(impl Abort + AllocGlobal), game: &Game, room: usize, at_end: AtEnd) {

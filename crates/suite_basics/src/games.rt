@@ -2,20 +2,20 @@
 // its successors.
 
 ghost use Rattle.std.specs.Prelude.{◌≡◌, ◌<◌, ◌≤◌, length};
-ghost use Rattle.forms.specs.Normal.{normal_nodes};
+ghost use Rattle.calculus.specs.Normal.{normal_nodes};
 ghost use Rattle.game.specs.Arena.{arena};
 
 use crate::common;
 use crate::common::{
     form, game, game_by_hand, game_of, holds, is_either, push_step, repeated, same,
 };
-use forms::form::Normal;
+use calculus::form::Normal;
 use game::build::{build, build_split};
 use game::error::BuildError;
 use game::graph::Game;
 use game::player::Player;
 use lts::Lts;
-use samples::games::{Row, made};
+use samples::games::{GameRow, made};
 use samples::texts::{RING, form_of, system_read};
 use std::alloc::{AllocError, Global};
 use std::process::Abort;
@@ -67,7 +67,7 @@ fn text_of(alloc: Global, game: Result<Game, BuildError>) -> Result<String, Allo
     }
 }
 
-// The same of texts.
+// The game of the texts of a system and a formula, or the refusal.
 fn built(rt: &(impl Abort + AllocGlobal + Threads + Sync), system: &str, formula: &str) -> String {
     let lts = common::system(rt, system);
     let form = form(rt, formula);
@@ -90,7 +90,7 @@ fn split_of(
     text_of(rt.alloc(), game).ok()
 }
 
-// The same of a formula's text, if it is one.
+// The game of a formula's text, if it is one, where the states are cut into so many ranges, or the refusal.
 fn split_system(
     rt: &(impl AllocGlobal + Threads + Sync),
     lts: &Lts,
@@ -109,7 +109,7 @@ fn split_system(
     }
 }
 
-// The same of texts, if they are a system and a formula.
+// The game of texts, if they are a system and a formula, where the states are cut into so many ranges, or the refusal.
 fn split(
     rt: &(impl AllocGlobal + Threads + Sync),
     system: &str,
@@ -298,7 +298,7 @@ fn vertices_are_counted_before_they_are_made(rt: HostRuntime) {
     drop(formula);
 }
 
-static THREE: [Row; 3] = [
+static THREE: [GameRow; 3] = [
     (Player::Even, 0, &[0]),
     (Player::Odd, 1, &[0, 2]),
     (Player::Even, 1, &[1]),
@@ -320,7 +320,7 @@ fn games_are_made_by_hand(rt: HostRuntime) {
 
 // The first of two vertices: a priority that is too great, successors that descend, one that stands twice, one that is no
 // vertex, and none.
-static FAULTY: [[Row; 2]; 5] = [
+static FAULTY: [[GameRow; 2]; 5] = [
     [(Player::Even, 33, &[0, 1]), (Player::Odd, 0, &[0])],
     [(Player::Even, 0, &[1, 0]), (Player::Odd, 0, &[0])],
     [(Player::Even, 0, &[1, 1]), (Player::Odd, 0, &[0])],
@@ -328,7 +328,7 @@ static FAULTY: [[Row; 2]; 5] = [
     [(Player::Even, 0, &[]), (Player::Odd, 0, &[0])],
 ];
 
-fn is_game(rt: &(impl Abort + AllocGlobal), rows: &[Row]) -> bool {
+fn is_game(rt: &(impl Abort + AllocGlobal), rows: &[GameRow]) -> bool {
     made(rt, rows).expect(rt, "memory").is_some()
 }
 
@@ -339,7 +339,7 @@ fn what_is_no_game_is_told(rt: HostRuntime) {
     }
 }
 
-static ONE: [Row; 1] = [(Player::Even, 0, &[0])];
+static ONE: [GameRow; 1] = [(Player::Even, 0, &[0])];
 
 // A game has a vertex. One that leads to itself is enough.
 #[test]

@@ -2,15 +2,15 @@
 
 use crate::common::{form, holds, system};
 use game::build::build_seen;
+use game::gauge::{Gauge, GaugeReading};
 use game::graph::Game;
-use gauge::{Gauge, Reading};
 use samples::texts::RING;
 use std::process::Abort;
 use std::thread::Threads;
 
 // A gauge shows that so much of so much is done.
 fn reads(rt: &impl Abort, gauge: &Gauge, done: u64, whole: u64) {
-    holds!(rt; gauge.reading() == Some(Reading { done, whole }));
+    holds!(rt; gauge.reading() == Some(GaugeReading { done, whole }));
 }
 
 #[test]

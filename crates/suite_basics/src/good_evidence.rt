@@ -14,7 +14,7 @@ use game::graph::{Game, GameBuilder};
 use game::player::Player;
 use measures::settle::solve_one;
 use measures::table::Settled;
-use samples::games::{Row, push_row};
+use samples::games::{GameRow, push_row};
 use samples::texts::RING;
 use std::process::Abort;
 use std::thread::Threads;
@@ -62,7 +62,7 @@ fn push_entries(rt: &impl Abort, text: &mut String, game: &Game, evidence: &Evid
 }
 
 // What each player's evidence is to be.
-struct Wanted {
+struct ExpectedEvidence {
     even: &'static str,
     odd: &'static str,
     evens: usize,
@@ -136,7 +136,7 @@ fn checks(rt: &impl Abort, game: &Game, even: &Evidence, odd: &Evidence)
 fn are_wanted(
     rt: &(impl Abort + AllocGlobal),
     game: &Game,
-    wanted: &Wanted,
+    wanted: &ExpectedEvidence,
     even: &Evidence,
     odd: &Evidence,
 )
@@ -149,7 +149,7 @@ fn are_wanted(
     shows(rt, game, odd, wanted.odd);
 }
 
-fn gives_both(rt: &(impl Abort + AllocGlobal), game: &Game, wanted: &Wanted) {
+fn gives_both(rt: &(impl Abort + AllocGlobal), game: &Game, wanted: &ExpectedEvidence) {
     let even = even_of(rt, game);
     let odd = odd_of(rt, game);
     are_wanted(rt, game, wanted, &even, &odd);
@@ -157,7 +157,7 @@ fn gives_both(rt: &(impl Abort + AllocGlobal), game: &Game, wanted: &Wanted) {
     drop(even);
 }
 
-static EXAMPLE: Wanted = Wanted {
+static EXAMPLE: ExpectedEvidence = ExpectedEvidence {
     even: "0 0 (0)\n2 3 (0)\n3 4 (1)\n4 5 (0)\n5 13 (0)\n6 2 (0)\n8 3 (1)\n9 10 (0)\n10 11 (2)\n11 14 (1)\n13 9 (0)\n14 8 (1)\n15 10 (2)\n",
     odd: "1 - (0,0)\n7 - (0,1)\n12 - (0,1)\n",
     evens: 13,
@@ -198,14 +198,14 @@ fn the_dual_of_the_example(rt: HostRuntime) {
 }
 
 // Small games, and the evidence of each.
-static SMALL: [(&[Row], Wanted); 2] = [
+static SMALL: [(&[GameRow], ExpectedEvidence); 2] = [
     (
         &[
             (Player::Even, 0, &[0, 1]),
             (Player::Odd, 1, &[0, 1]),
             (Player::Odd, 2, &[0, 2]),
         ],
-        Wanted {
+        ExpectedEvidence {
             even: "0 0 (0)\n2 - (0)\n",
             odd: "1 1 (0,0)\n",
             evens: 2,
@@ -218,7 +218,7 @@ static SMALL: [(&[Row], Wanted); 2] = [
             (Player::Even, 0, &[0]),
             (Player::Even, 0, &[2]),
         ],
-        Wanted {
+        ExpectedEvidence {
             even: "2 2 (0)\n",
             odd: "0 1 (0)\n1 - (1)\n",
             evens: 1,

@@ -377,7 +377,7 @@ fn is_put(rt: &(impl Abort + AllocGlobal), step: usize, room: usize) {
     drop(out);
 }
 
-// The same for each room that is too little.
+// A writer with room for all is given all, and one with too little, however little, a beginning and a fault.
 fn is_put_anywhere(rt: &(impl Abort + AllocGlobal), step: usize) {
     is_put(rt, step, AMPLE);
     for room in 0..JOINED.len() {

@@ -2,9 +2,9 @@
 
 use crate::common::{form, holds, is_either, repeated, same};
 use calculus::closed::Closed;
+use calculus::form::Normal;
+use calculus::node::Kind;
 use calculus::tree::Act;
-use forms::form::Normal;
-use forms::node::Kind;
 use normal::count::counted_nodes;
 use normal::make::normal;
 use samples::texts::parsed_formula;
@@ -24,9 +24,9 @@ fn letter(action: &Act) -> &'static str {
 }
 
 // What a node is, with its children or its binder (0 for none), and its action.
-type Shape = (&'static str, u32, u32, &'static str);
+type NodeShape = (&'static str, u32, u32, &'static str);
 
-fn shape(kind: &Kind) -> Shape {
+fn shape(kind: &Kind) -> NodeShape {
     match kind {
         Kind::True => ("true", 0, 0, ""),
         Kind::False => ("false", 0, 0, ""),
@@ -41,10 +41,10 @@ fn shape(kind: &Kind) -> Shape {
 }
 
 // A shape, and the priority.
-type Row = (&'static str, u32, u32, &'static str, u32);
+type NodeRow = (&'static str, u32, u32, &'static str, u32);
 
 // The nodes of `<a + + b>true`.
-static CHOICE: [Row; 9] = [
+static CHOICE: [NodeRow; 9] = [
     ("or", 1, 7, "", 0),
     ("dia", 2, 0, "a", 0),
     ("mu", 3, 0, "", 1),
@@ -57,7 +57,7 @@ static CHOICE: [Row; 9] = [
 ];
 
 // Those of `!(<a>true && mu X. [b]X)`.
-static NEGATION: [Row; 6] = [
+static NEGATION: [NodeRow; 6] = [
     ("or", 1, 3, "", 0),
     ("box", 2, 0, "a", 0),
     ("false", 0, 0, "", 0),
@@ -66,7 +66,7 @@ static NEGATION: [Row; 6] = [
     ("var", 3, 0, "", 0),
 ];
 
-fn has_nodes(form: &Normal, nodes: &[Row]) -> bool {
+fn has_nodes(form: &Normal, nodes: &[NodeRow]) -> bool {
     if form.count() as usize != nodes.len() {
         return false;
     }
@@ -80,7 +80,7 @@ fn has_nodes(form: &Normal, nodes: &[Row]) -> bool {
     true
 }
 
-fn is_numbered(rt: &(impl Abort + AllocGlobal), text: &str, nodes: &[Row]) {
+fn is_numbered(rt: &(impl Abort + AllocGlobal), text: &str, nodes: &[NodeRow]) {
     let form = form(rt, text);
     holds!(rt; has_nodes(&form, nodes), text);
     drop(form);
@@ -99,7 +99,7 @@ fn sizes(alloc: Global, formula: &Closed, form: &Normal) -> Result<String, Alloc
     format!(in alloc; "{counted} {nodes} {depth}")
 }
 
-// The same of a formula, or the refusal.
+// How many nodes of a formula are counted, how many its normal form has and how deep binders alternate, or the refusal.
 fn size_of(alloc: Global, formula: &Closed) -> Result<String, AllocError> {
     match normal(alloc, formula) {
         Ok(form) => {
@@ -111,7 +111,7 @@ fn size_of(alloc: Global, formula: &Closed) -> Result<String, AllocError> {
     }
 }
 
-// The same of a text, if it is a formula.
+// What `size_of` tells of a text, if it is a formula.
 fn size(alloc: Global, text: &str) -> Option<String> {
     match parsed_formula(alloc, text) {
         Ok(formula) => {

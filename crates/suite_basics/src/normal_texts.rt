@@ -2,8 +2,8 @@
 
 use crate::common::{form, formula, has_taken, holds, holds_for};
 use calculus::closed::Closed;
-use forms::form::Normal;
-use forms::priorities::Priorities;
+use calculus::form::Normal;
+use calculus::priorities::Priorities;
 use normal::make::normal_with;
 use normal::printer::print_normal;
 use samples::writers::{AMPLE, Narrow};

@@ -3,8 +3,8 @@
 use crate::common;
 use crate::common::{holds, push_text, repeated, same};
 use calculus::closed::Closed;
-use hints::absent::first_absent;
-use hints::strange::{Word, strange_words};
+use formula::absent::first_absent;
+use formula::strange::{Word, strange_words};
 use lts::Lts;
 use samples::texts::RING;
 use std::process::Abort;

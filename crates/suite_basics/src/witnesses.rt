@@ -3,7 +3,7 @@
 ghost use Rattle.std.specs.Prelude.{◌≡◌, ◌<◌, ◌≤◌, IfSome};
 ghost use Rattle.systems.specs.Numbered.{IsInside};
 ghost use Rattle.evidence.specs.Evidence.{IsGood};
-ghost use Rattle.forms.specs.Normal.{normal_nodes};
+ghost use Rattle.calculus.specs.Normal.{normal_nodes};
 ghost use Rattle.game.specs.Arena.{arena};
 ghost use Rattle.game.specs.Game.{greatest};
 
@@ -12,11 +12,11 @@ use crate::common::{
     system,
 };
 use calculus::closed::Closed;
+use calculus::form::Normal;
+use calculus::label_sets::label_sets;
+use calculus::limits::GREATEST_PRIORITY;
 use evidence::evidence::Evidence;
 use evidence::make::{even_evidence, odd_evidence};
-use forms::form::Normal;
-use forms::labels::label_sets;
-use forms::limits::GREATEST_PRIORITY;
 use game::graph::Game;
 use lts::{Lts, Transition, read_aut, write_part};
 use meaning::plain::plain_states;
@@ -206,7 +206,7 @@ fn shows_part(
     bytes
 }
 
-// The same of a text's formula.
+// The part of a text's formula is a system that shows what the whole does. It answers the part's text.
 fn shows(rt: &(impl Abort + AllocGlobal + Threads + Sync), system: &Lts, text: &str) -> Vec<u8> {
     let formula = formula(rt, text);
     let bytes = shows_part(rt, system, &formula, text);

@@ -2,11 +2,11 @@
 
 use crate::common::{holds, same};
 use crate::help::HELP;
+use calculus::priorities::Priorities;
 use command_line::information::{explanation, help_text, version_text};
 use command_line::line::command;
-use forms::priorities::Priorities;
-use invocation::names::is_drawing;
-use invocation::request::{Command, Labels, Outputs};
+use command_line::names::is_drawing;
+use command_line::request::{Command, Labels, Outputs};
 use requests::error::MuError;
 use requests::request::{
     BoardKind, Check, Normalize, Options, Replay, ReportForm, Solve, Table, Verify, Why,

@@ -2,18 +2,18 @@
 // docs/FORMATS.md, and games that were solved by hand. tests/commands asks the built program for the same and for more, and for what is refused.
 
 use crate::common::{answers, cramped, holds, is_cut, is_written, ready};
+use calculus::priorities::Priorities;
 use commands::labels_text::labels_text;
 use commands::normal_text::{normal_asked, normal_text};
 use commands::solve_text::solve_text;
 use commands::verify_text::{verify_both_text, verify_text};
-use fixtures::texts::{
+use requests::error::MuError;
+use requests::request::{BoardKind, Normalize, Options};
+use samples::readers::SlowReader;
+use samples::ring_games::{
     APART, EVEN_OF_APART, EVEN_OF_OFTEN_A, EVEN_OF_STEP, ODD_OF_APART, ODD_OF_OFTEN_A, ODD_OF_STEP,
     OFTEN_A, STEP,
 };
-use forms::priorities::Priorities;
-use requests::error::MuError;
-use requests::request::{BoardKind, Normalize, Options};
-use samples::readers::Slow;
 use samples::texts::unseeded;
 use samples::writers::{AMPLE, Narrow};
 use std::alloc::Global;
@@ -31,7 +31,7 @@ const OPTIONS: Options = Options {
 
 /// A command with its texts.
 #[derive(Clone, Copy)]
-enum Asked<'a> {
+enum CommandWithTexts<'a> {
     Labels(&'a str, Option<&'a str>),
     Normal(&'a str, Priorities),
     Solve(&'a str),
@@ -41,18 +41,18 @@ enum Asked<'a> {
 
 fn run<W: Write, H: Threads + Wait + AllocGlobal + Clone + Copy + Drop + Send + Sync>(
     rt: &H,
-    asked: &Asked<'_>,
+    asked: &CommandWithTexts<'_>,
     out: &mut W,
 ) -> Result<bool, MuError> {
     let alloc = rt.alloc();
     match asked {
-        Asked::Labels(system, formula) => run_labels(alloc, system, *formula, out),
-        Asked::Normal(formula, rule) => run_normal(alloc, formula, *rule, out),
-        Asked::Solve(game) => solve_text(rt, alloc, game.as_bytes(), &OPTIONS, out),
-        Asked::Verify(game, evidence) => {
+        CommandWithTexts::Labels(system, formula) => run_labels(alloc, system, *formula, out),
+        CommandWithTexts::Normal(formula, rule) => run_normal(alloc, formula, *rule, out),
+        CommandWithTexts::Solve(game) => solve_text(rt, alloc, game.as_bytes(), &OPTIONS, out),
+        CommandWithTexts::Verify(game, evidence) => {
             verify_text(alloc, game.as_bytes(), evidence.as_bytes(), out)
         }
-        Asked::Both(game, first, second) => run_both(alloc, game, first, second, out),
+        CommandWithTexts::Both(game, first, second) => run_both(alloc, game, first, second, out),
     }
 }
 
@@ -93,7 +93,7 @@ fn run_both<W: Write>(
 /// The command writes this, and answers so.
 fn tells<H: Abort + Threads + Wait + AllocGlobal + Clone + Copy + Drop + Send + Sync>(
     rt: &H,
-    asked: &Asked<'_>,
+    asked: &CommandWithTexts<'_>,
     text: &str,
     answer: &str,
 ) {
@@ -110,104 +110,104 @@ const BLANKS: &str =
 const TWICE: &str =
     "des (1,5,2)\n(0,\"s|r\",1)\n(0,\"s|r\",1)\n(0,\"\\b\",1)\n(0,\"a\",1)\n(1,\"a\",1)\n";
 
-static TOLD: [(Asked<'static>, &str, &str); 20] = [
+static TOLD: [(CommandWithTexts<'static>, &str, &str); 20] = [
     (
-        Asked::Labels(BLANKS, None),
+        CommandWithTexts::Labels(BLANKS, None),
         "3 \"b c\"\n2 \"a\"\n1 \"tau\"\n",
         "yes",
     ),
     (
-        Asked::Labels(BLANKS, Some("<a>true && [!\"b c\"]<tau>true")),
+        CommandWithTexts::Labels(BLANKS, Some("<a>true && [!\"b c\"]<tau>true")),
         "3 \"b c\"\n2 \"a\" taken\n1 \"tau\" taken\n",
         "yes",
     ),
     (
-        Asked::Labels(TWICE, Some("mu X. (<r|s>X || [\"\\b\" + b]false)")),
+        CommandWithTexts::Labels(TWICE, Some("mu X. (<r|s>X || [\"\\b\" + b]false)")),
         "2 \"a\"\n1 \"\\b\" taken\n1 \"s|r\" taken\n",
         "yes",
     ),
     (
-        Asked::Labels(TWICE, Some("nu X. X")),
+        CommandWithTexts::Labels(TWICE, Some("nu X. X")),
         "2 \"a\"\n1 \"\\b\"\n1 \"s|r\"\n",
         "yes",
     ),
     (
-        Asked::Labels("des (0,0,1)\n", Some("<true>true")),
+        CommandWithTexts::Labels("des (0,0,1)\n", Some("<true>true")),
         "",
         "yes",
     ),
     (
-        Asked::Normal("<a + + b>true", Priorities::Nested),
+        CommandWithTexts::Normal("<a + + b>true", Priorities::Nested),
         "nodes 9 priority 1 depth 1\n0 or 0 1 7\n1 dia 0 2 a\n2 mu 1 3\n3 or 0 4 5\n4 true 0\n5 dia 0 6 a\n6 var 0 2\n7 dia 0 8 b\n8 true 0\n",
         "yes",
     ),
     (
-        Asked::Normal("!(<a>true && mu X. [b]X)", Priorities::Nested),
+        CommandWithTexts::Normal("!(<a>true && mu X. [b]X)", Priorities::Nested),
         "nodes 6 priority 0 depth 1\n0 or 0 1 3\n1 box 0 2 a\n2 false 0\n3 nu 0 4\n4 dia 0 5 b\n5 var 0 3\n",
         "yes",
     ),
     (
-        Asked::Solve(STEP),
+        CommandWithTexts::Solve(STEP),
         "vertices 6\neven 4\n0 even\n1 odd\n2 even\n3 even\n4 odd\n5 even\n",
         "yes",
     ),
     (
-        Asked::Solve("parity 1;\n0 0 0 1;\n1 1 1 0;\n"),
+        CommandWithTexts::Solve("parity 1;\n0 0 0 1;\n1 1 1 0;\n"),
         "vertices 2\neven 0\n0 odd\n1 odd\n",
         "yes",
     ),
     (
-        Asked::Solve("parity 1;\n0 0 0 1;\n1 2 1 0;\n"),
+        CommandWithTexts::Solve("parity 1;\n0 0 0 1;\n1 2 1 0;\n"),
         "vertices 2\neven 2\n0 even\n1 even\n",
         "yes",
     ),
     (
-        Asked::Solve(APART),
+        CommandWithTexts::Solve(APART),
         "vertices 16\neven 1\n0 even\n1 odd\n2 odd\n3 odd\n4 odd\n5 odd\n6 odd\n7 odd\n8 odd\n9 odd\n10 odd\n11 odd\n12 odd\n13 odd\n14 odd\n15 odd\n",
         "yes",
     ),
     (
-        Asked::Both(APART, EVEN_OF_APART, ODD_OF_APART),
+        CommandWithTexts::Both(APART, EVEN_OF_APART, ODD_OF_APART),
         "verified both even 1 odd 15 of 16\n",
         "yes",
     ),
     (
-        Asked::Verify(OFTEN_A, EVEN_OF_OFTEN_A),
+        CommandWithTexts::Verify(OFTEN_A, EVEN_OF_OFTEN_A),
         "verified even 13 of 16\n",
         "yes",
     ),
     (
-        Asked::Verify(OFTEN_A, ODD_OF_OFTEN_A),
+        CommandWithTexts::Verify(OFTEN_A, ODD_OF_OFTEN_A),
         "verified odd 3 of 16\n",
         "yes",
     ),
     (
-        Asked::Verify(STEP, ODD_OF_STEP),
+        CommandWithTexts::Verify(STEP, ODD_OF_STEP),
         "verified odd 2 of 6\n",
         "yes",
     ),
     (
-        Asked::Both(OFTEN_A, EVEN_OF_OFTEN_A, ODD_OF_OFTEN_A),
+        CommandWithTexts::Both(OFTEN_A, EVEN_OF_OFTEN_A, ODD_OF_OFTEN_A),
         "verified both even 13 odd 3 of 16\n",
         "yes",
     ),
     (
-        Asked::Both(OFTEN_A, ODD_OF_OFTEN_A, EVEN_OF_OFTEN_A),
+        CommandWithTexts::Both(OFTEN_A, ODD_OF_OFTEN_A, EVEN_OF_OFTEN_A),
         "verified both even 13 odd 3 of 16\n",
         "yes",
     ),
     (
-        Asked::Both(OFTEN_A, EVEN_OF_OFTEN_A, EVEN_OF_OFTEN_A),
+        CommandWithTexts::Both(OFTEN_A, EVEN_OF_OFTEN_A, EVEN_OF_OFTEN_A),
         "refused C4\n",
         "no",
     ),
     (
-        Asked::Both(STEP, EVEN_OF_STEP, ODD_OF_STEP),
+        CommandWithTexts::Both(STEP, EVEN_OF_STEP, ODD_OF_STEP),
         "verified both even 4 odd 2 of 6\n",
         "yes",
     ),
     (
-        Asked::Both(STEP, EVEN_OF_STEP, "evidence odd\n1 - (0)\n"),
+        CommandWithTexts::Both(STEP, EVEN_OF_STEP, "evidence odd\n1 - (0)\n"),
         "refused C5 at 4\n",
         "no",
     ),
@@ -249,9 +249,9 @@ fn normal_forms_by_either_rule(rt: HostRuntime) {
 }
 
 /// A reader of a beginning of the text that fails behind it.
-fn failing_reader(text: &str, given: usize) -> Slow<'_> {
+fn failing_reader(text: &str, given: usize) -> SlowReader<'_> {
     let (left, _) = text.as_bytes().split_at(given.min(text.len()));
-    Slow {
+    SlowReader {
         left,
         step: 5,
         fails: true,
@@ -343,7 +343,7 @@ fn failed_reads_of_commands_are_told(rt: HostRuntime) {
 /// Into so little room a beginning of the text is written.
 fn leaves_a_beginning<H: Abort + Threads + Wait + AllocGlobal + Clone + Copy + Drop + Send + Sync>(
     rt: &H,
-    asked: &Asked<'_>,
+    asked: &CommandWithTexts<'_>,
     text: &str,
     room: usize,
 ) {
@@ -365,7 +365,7 @@ fn failed_writes_of_commands_leave_a_beginning(rt: HostRuntime) {
 /// The whole text is written, or there is no answer and nothing is written.
 fn writes_all_or_nothing<
     H: Abort + Threads + Wait + AllocGlobal + Clone + Copy + Drop + Send + Sync,
->(rt: &H, asked: &Asked<'_>, text: &str) {
+>(rt: &H, asked: &CommandWithTexts<'_>, text: &str) {
     let mut out = ready(rt);
     let is_done = run(rt, asked, &mut out).is_ok();
     is_written(rt, if is_done { text } else { "" }, &out);

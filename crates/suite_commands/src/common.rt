@@ -1,7 +1,7 @@
 // What the tests of several topics use.
 
-use fixtures::answers::answer_text;
 use requests::error::MuError;
+use samples::answers::answer_text;
 use samples::writers::{AtEnd, Narrow};
 use std::alloc::Global;
 use std::process::Abort;

@@ -2,11 +2,11 @@
 // measures rise.
 
 use crate::common::holds;
+use calculus::priorities::Priorities;
 use commands::solve_text::solve_asked;
-use fixtures::lifters::Lifters;
-use fixtures::texts::OFTEN_A;
-use forms::priorities::Priorities;
 use requests::request::{BoardKind, Options, Solve};
+use samples::lifters::Lifters;
+use samples::ring_games::OFTEN_A;
 use samples::writers::{AMPLE, Narrow};
 use std::process::Abort;
 use std::sync::Wait;

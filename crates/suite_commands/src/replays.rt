@@ -5,7 +5,7 @@ use crate::common::{answers, cramped, holds, is_cut, is_written, ready};
 use commands::replay_text::{replay_asked, replay_text};
 use requests::error::MuError;
 use requests::request::Replay;
-use samples::readers::Slow;
+use samples::readers::SlowReader;
 use samples::texts::{RING, unseeded};
 use samples::writers::{AMPLE, Narrow};
 use std::io::Write;
@@ -13,15 +13,15 @@ use std::process::Abort;
 use std::thread::Threads;
 
 /// A formula, a schedule and a number of workers: a replay in the game of the formula on the ring of two states.
-type Asked<'a> = (&'a str, &'a str, u32);
+type ReplayCase<'a> = (&'a str, &'a str, u32);
 
 fn run<W: Write, H: Threads + Sync + AllocGlobal>(
     rt: &H,
-    asked: Asked<'_>,
+    asked: ReplayCase<'_>,
     out: &mut W,
 ) -> Result<bool, MuError> {
     let (formula, schedule, workers) = asked;
-    let schedule = Slow {
+    let schedule = SlowReader {
         left: schedule.as_bytes(),
         step: 7,
         fails: false,
@@ -48,7 +48,7 @@ fn run<W: Write, H: Threads + Sync + AllocGlobal>(
 /// The command writes this, and answers so.
 fn tells<H: Abort + Threads + Sync + AllocGlobal>(
     rt: &H,
-    asked: Asked<'_>,
+    asked: ReplayCase<'_>,
     text: &str,
     answer: &str,
 ) {
@@ -73,7 +73,7 @@ const NO_EVENT: &str =
     "events 0 done 0 skipped 0\n0 (0)\n1 top\n2 (0)\n3 (0)\n4 (0)\n5 (0)\npending 0,1,2,3,4,5\nsettled no\nquiet no\n";
 
 /// Schedules, and what is written of them.
-static TOLD: [(Asked<'static>, &str); 8] = [
+static TOLD: [(ReplayCase<'static>, &str); 8] = [
     (
         ("<a>true", "take 0 4\nread 0 1\nraise 0\n", 2),
         "events 3 done 3 skipped 0\n0 (0)\n1 top\n2 (0)\n3 (0)\n4 top\n5 (0)\npending 0,1,2,3,5\nsettled yes\nquiet no\n",
@@ -132,9 +132,9 @@ fn writes_of_no_event<H: Abort + Threads + Sync + AllocGlobal>(rt: &H) {
 }
 
 /// The schedule of a late read, of which the reader fails behind so many bytes.
-fn failing_schedule(given: usize) -> Slow<'static> {
+fn failing_schedule(given: usize) -> SlowReader<'static> {
     let (left, _) = LATE.as_bytes().split_at(given.min(LATE.len()));
-    Slow {
+    SlowReader {
         left,
         step: 3,
         fails: true,
@@ -173,7 +173,7 @@ fn failed_reads_of_schedules_are_told(rt: HostRuntime) {
 /// Into so little room a beginning of the text is written.
 fn leaves_a_beginning<H: Abort + Threads + Sync + AllocGlobal>(
     rt: &H,
-    asked: Asked<'_>,
+    asked: ReplayCase<'_>,
     text: &str,
     room: usize,
 ) {
@@ -195,7 +195,7 @@ fn failed_writes_of_replays_leave_a_beginning(rt: HostRuntime) {
 /// The whole text is written, or there is no answer and nothing is written.
 fn writes_all_or_nothing<H: Abort + Threads + Sync + AllocGlobal>(
     rt: &H,
-    asked: Asked<'_>,
+    asked: ReplayCase<'_>,
     text: &str,
 ) {
     let mut out = ready(rt);

@@ -4,12 +4,12 @@
 ghost use Rattle.std.specs.Prelude.{◌<◌};
 
 use crate::common::{holds, is_unwritten, is_written};
+use calculus::priorities::Priorities;
 use commands::solve_text::solve_asked;
-use fixtures::texts::{EVEN_OF_STEP, ODD_OF_STEP, STEP};
-use forms::priorities::Priorities;
-use measures::observer::Silent;
+use game::observer::Silent;
 use requests::error::MuError;
 use requests::request::{BoardKind, Options, Solve};
+use samples::ring_games::{EVEN_OF_STEP, ODD_OF_STEP, STEP};
 use samples::writers::{AMPLE, Narrow};
 use std::alloc::Global;
 use std::process::Abort;
@@ -30,17 +30,17 @@ const REQUEST: Solve<'static> = Solve {
 
 /// What is written of a game.
 #[derive(Drop)]
-struct Written {
+struct SolvedTexts {
     even: Narrow,
     odd: Narrow,
     winners: Narrow,
 }
 
-impl Written {
+impl SolvedTexts {
     /// Nothing yet, with room for so many bytes of each text.
-    fn new(alloc: Global, rooms: [usize; 3]) -> Written {
+    fn new(alloc: Global, rooms: [usize; 3]) -> SolvedTexts {
         let [even, odd, winners] = rooms;
-        Written {
+        SolvedTexts {
             even: Narrow::new(alloc, 7, even),
             odd: Narrow::new(alloc, 7, odd),
             winners: Narrow::new(alloc, 7, winners),
@@ -81,7 +81,7 @@ const WINNERS_OF_STEP: &str = "vertices 6\neven 4\n0 even\n1 odd\n2 even\n3 even
 /// The game is solved, and this is written of who wins.
 fn solves<H: Abort + Threads + Wait + AllocGlobal + Clone + Copy + Drop + Send + Sync>(
     rt: &H,
-    all: &mut Written,
+    all: &mut SolvedTexts,
     game: &str,
     winners: &str,
 ) {
@@ -92,7 +92,7 @@ fn solves<H: Abort + Threads + Wait + AllocGlobal + Clone + Copy + Drop + Send +
 /// Where each vertex has one move, and no rank has to count more than one vertex, it is that which was worked out.
 #[test]
 fn evidence_is_that_worked_out(rt: HostRuntime) {
-    let mut all = Written::new(rt.alloc(), [AMPLE; 3]);
+    let mut all = SolvedTexts::new(rt.alloc(), [AMPLE; 3]);
     solves(&rt, &mut all, STEP, WINNERS_OF_STEP);
     is_written(&rt, EVEN_OF_STEP, &all.even);
     is_written(&rt, ODD_OF_STEP, &all.odd);
@@ -117,7 +117,7 @@ fn is_cut_at<H: Abort + Threads + Wait + AllocGlobal + Clone + Copy + Drop + Sen
 {
     let mut rooms = [AMPLE; 3];
     rooms[at] = 9;
-    let mut all = Written::new(rt.alloc(), rooms);
+    let mut all = SolvedTexts::new(rt.alloc(), rooms);
     holds(rt, STEP, is_unwritten(&all.solve(rt, STEP)));
     are_cut_at(rt, all.lengths(), at);
 }

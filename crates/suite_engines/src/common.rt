@@ -3,9 +3,9 @@
 
 ghost use Rattle.std.specs.Prelude.{◌≡◌, true};
 
+use calculus::priorities::Priorities;
 use engines::error::MuError;
 use engines::request::{BoardKind, Options};
-use forms::priorities::Priorities;
 use lts::{Lts, read_aut};
 use samples::texts::{repeated_text, ring, unseeded};
 use samples::writers::{AMPLE, Narrow};
@@ -43,7 +43,7 @@ pub(crate) fn require(rt: &impl Abort, is_so: bool, text: &str)
     assert!(rt; is_so, "{text}");
 }
 
-/// The same of a number, which is told with the text.
+/// What is claimed of a number is so, or else the test ends and tells the text and the number.
 pub(crate) fn holds_of(rt: &impl Abort, is_so: bool, text: &str, number: u64)
     ensures { is_so ≡ true }
 {

@@ -1,13 +1,13 @@
 // The report and refusals of each engine, on the ring of two states. More of them, and those on other systems, are compared by `tests/answers`.
 
 use crate::common::{DEFAULTS, holds, is_beginning, is_text, repeats, same, says};
-use engines::engine::{check, check_one, check_plain};
+use calculus::priorities::Priorities;
 use engines::error::MuError;
+use engines::named::{check, check_one, check_plain};
 use engines::request::{BoardKind, Options};
 use engines::status::status;
 use engines::writers::EvidenceWriters;
-use fixtures::answers::answer_text;
-use forms::priorities::Priorities;
+use samples::answers::answer_text;
 use samples::texts::{RING, unseeded};
 use samples::writers::Narrow;
 use std::alloc::{AllocError, Global};

@@ -2,10 +2,10 @@
 
 use crate::common::{ample, holds, is_text, repeats, same, says};
 use crate::engine_reports::refuses_as;
-use engines::engine::check_plain;
 use engines::error::MuError;
+use engines::named::check_plain;
 use lts::put;
-use samples::readers::{Halting, Slow, Wanting};
+use samples::readers::{Halting, SlowReader, Wanting};
 use samples::texts::{RING, unseeded};
 use samples::writers::{AtEnd, Narrow};
 use std::alloc::{AllocError, Global};
@@ -18,8 +18,8 @@ const REPORT: &str =
     "system 2 states 2 transitions initial 0\nformula <a>true\nyes 1 of 2\ninitial yes\n0 yes\n1 no\n";
 
 /// All bytes of the text, some at a time, and then a failure where it is to fail.
-fn slow(text: &str, fails: bool) -> Slow<'_> {
-    Slow {
+fn slow(text: &str, fails: bool) -> SlowReader<'_> {
+    SlowReader {
         left: text.as_bytes(),
         step: 3,
         fails,

@@ -3,13 +3,13 @@
 
 use crate::common::{holds, is_text, repeats, ring_of, says};
 use crate::engine_reports::{refuses_as, ring_report};
-use engines::engine::{check, check_gated};
+use calculus::priorities::Priorities;
 use engines::error::MuError;
+use engines::named::{check, check_gated};
 use engines::request::{BoardKind, Options};
 use engines::writers::EvidenceWriters;
-use fixtures::meeting::Meeting;
-use fixtures::texts::{EVEN_OF_OFTEN_A, ODD_OF_OFTEN_A, OFTEN_A};
-use forms::priorities::Priorities;
+use samples::meeting::Meeting;
+use samples::ring_games::{EVEN_OF_OFTEN_A, ODD_OF_OFTEN_A, OFTEN_A};
 use samples::texts::{RING, unseeded};
 use samples::writers::{AMPLE, Narrow};
 use std::alloc::Global;
@@ -32,7 +32,7 @@ fn options(workers: u32, shards: u32, board: BoardKind) -> Option<Options> {
     })
 }
 
-// The same, and there are some.
+// The options of so many workers over this board, where they are within the limits; else the test ends.
 fn team(rt: &impl Abort, workers: u32, shards: u32, board: BoardKind) -> Options {
     options(workers, shards, board).expect(rt, "options")
 }
@@ -120,16 +120,16 @@ const REPORT_OF_OFTEN_A: &str =
 
 // The texts that a check writes beside its report.
 #[derive(Drop)]
-struct Texts {
+struct WrittenTexts {
     game: Vec<u8>,
     even: Vec<u8>,
     odd: Vec<u8>,
     report: Vec<u8>,
 }
 
-impl Texts {
-    fn new(alloc: Global) -> Texts {
-        Texts {
+impl WrittenTexts {
+    fn new(alloc: Global) -> WrittenTexts {
+        WrittenTexts {
             game: Vec::new(alloc),
             even: Vec::new(alloc),
             odd: Vec::new(alloc),
@@ -150,7 +150,7 @@ impl Texts {
 fn check_all<
     G: Gate + Sync,
     R: Abort + AllocGlobal + Threads + Wait + Clone + Copy + Drop + Send + Sync,
->(rt: &R, options: &Options, gate: &G, texts: &mut Texts) -> Result<bool, MuError> {
+>(rt: &R, options: &Options, gate: &G, texts: &mut WrittenTexts) -> Result<bool, MuError> {
     let (system, formula) = (RING.as_bytes(), "nu X. mu Y. (<a>X || <b>Y)".as_bytes());
     let evidence = EvidenceWriters::Both(&mut texts.even, &mut texts.odd);
     let (out, game) = (&mut texts.report, Some(&mut texts.game));
@@ -173,7 +173,7 @@ fn meet<R: Abort + AllocGlobal + Threads + Wait + Clone + Copy + Drop + Send + S
     rt: &R,
     board: BoardKind,
 ) {
-    let mut texts = Texts::new(rt.alloc());
+    let mut texts = WrittenTexts::new(rt.alloc());
     let gate = Meeting::new();
     let answer = check_all(rt, &team(rt, 2, 16, board), &gate, &mut texts);
     says(rt, "often a", &answer, true);
@@ -234,11 +234,11 @@ fn workers_of_a_check_want_memory_before_they_write(rt: HostRuntime) {
 
 // Counts turns.
 #[derive(Drop)]
-struct Turns {
+struct TurnCount {
     count: AtomicU64,
 }
 
-impl Gate for Turns {
+impl Gate for TurnCount {
     fn before(&self, _worker: usize, _v: u32) {
         self.count.fetch_add(1, Ordering::SeqCst);
     }
@@ -249,8 +249,8 @@ fn takes_turns<R: Abort + AllocGlobal + Threads + Wait + Clone + Copy + Drop + S
     rt: &R,
     board: BoardKind,
 ) {
-    let mut texts = Texts::new(rt.alloc());
-    let gate = Turns {
+    let mut texts = WrittenTexts::new(rt.alloc());
+    let gate = TurnCount {
         count: AtomicU64::new(0),
     };
     let answer = check_all(rt, &team(rt, 1, 16, board), &gate, &mut texts);

@@ -3,12 +3,12 @@
 
 use crate::common::{holds, ring_of, says};
 use crate::unwritten::unwritten;
+use calculus::priorities::Priorities;
 use engines::engine::check_asked;
 use engines::error::MuError;
 use engines::reasons::tell_why;
 use engines::request::{BoardKind, Check, Options, ReportForm, Wanted, Why};
-use fixtures::lifters::Lifters;
-use forms::priorities::Priorities;
+use samples::lifters::Lifters;
 use samples::texts::unseeded;
 use std::process::Abort;
 use std::sync::Wait;

@@ -1,10 +1,10 @@
 // The forms of a report, by sets of states and by a game, with other texts beside it and without. The system and its states were written by hand.
 
 use crate::common::{DEFAULTS, holds, is_text};
-use crate::unwritten::{Written, unwritten};
+use crate::unwritten::{TextBuffers, unwritten};
 use engines::engine::check_asked;
 use engines::request::{Check, ReportForm, Wanted};
-use measures::observer::Silent;
+use game::observer::Silent;
 use samples::texts::unseeded;
 use std::process::Abort;
 use std::sync::Wait;
@@ -58,7 +58,7 @@ fn answer<R: AllocGlobal + Threads + Wait + Clone + Copy + Drop + Send + Sync>(
     rt: &R,
     plain: bool,
     wanted: Wanted,
-    writers: &mut Written,
+    writers: &mut TextBuffers,
 ) -> Option<bool> {
     check_asked(
         rt,

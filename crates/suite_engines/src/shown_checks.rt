@@ -5,8 +5,8 @@ use engines::engine::check_asked;
 use engines::error::MuError;
 use engines::request::{Check, ReportForm, Wanted, WitnessForm};
 use engines::writers::Writers;
-use fixtures::texts::{EVEN_OF_STEP, ODD_OF_STEP, STEP};
-use measures::observer::Silent;
+use game::observer::Silent;
+use samples::ring_games::{EVEN_OF_STEP, ODD_OF_STEP, STEP};
 use samples::texts::{RING, unseeded};
 use samples::writers::{AMPLE, Narrow};
 use std::alloc::Global;
@@ -32,34 +32,34 @@ const NONE: Wanted = Wanted {
 const FORK: &str = "des (0,3,3)\n(0,\"a\",1)\n(0,\"a\",2)\n(1,\"b\",0)\n";
 
 /// A check, and whether the initial state satisfies the formula.
-struct Row {
+struct ShownCheck {
     system: &'static str,
     formula: &'static str,
     holds: bool,
 }
 
-static ROWS: [Row; 5] = [
-    Row {
+static ROWS: [ShownCheck; 5] = [
+    ShownCheck {
         system: RING,
         formula: "<a>true",
         holds: true,
     },
-    Row {
+    ShownCheck {
         system: RING,
         formula: "[a]false",
         holds: false,
     },
-    Row {
+    ShownCheck {
         system: RING,
         formula: "<b>true",
         holds: false,
     },
-    Row {
+    ShownCheck {
         system: RING,
         formula: "nu X. <true>X",
         holds: true,
     },
-    Row {
+    ShownCheck {
         system: FORK,
         formula: "[true*]<true>true",
         holds: false,
@@ -99,7 +99,7 @@ fn request(plain: bool) -> Check<'static> {
 fn run<R: Threads + Wait + Clone + Copy + Drop + Send + Sync>(
     rt: &R,
     alloc: Global,
-    row: &Row,
+    row: &ShownCheck,
     wanted: Wanted,
     writers: &mut Narrows,
 ) -> Result<bool, MuError> {
@@ -141,7 +141,7 @@ fn has_the_report_alone(rt: &impl Abort, writers: &Narrows) {
 /// Writes what is wanted of a check that answers as it has to.
 fn answers<R: Abort + AllocGlobal + Threads + Wait + Clone + Copy + Drop + Send + Sync>(
     rt: &R,
-    row: &Row,
+    row: &ShownCheck,
     wanted: Wanted,
     writers: &mut Narrows,
 ) {
@@ -181,7 +181,7 @@ fn a_witness_is_a_system_or_a_drawing(rt: HostRuntime) {
 
 fn has_no_more<R: Abort + AllocGlobal + Threads + Wait + Clone + Copy + Drop + Send + Sync>(
     rt: &R,
-    row: &Row,
+    row: &ShownCheck,
 ) {
     let mut writers = ample_writers(rt.alloc());
     answers(rt, row, NONE, &mut writers);
@@ -198,7 +198,7 @@ fn what_is_not_wanted_is_not_written(rt: HostRuntime) {
 /// With so little room for the witness no report is written.
 fn witness_fails<R: Abort + AllocGlobal + Threads + Wait + Clone + Copy + Drop + Send + Sync>(
     rt: &R,
-    row: &Row,
+    row: &ShownCheck,
     room: usize,
 ) {
     let mut writers = ample_writers(rt.alloc());
@@ -227,7 +227,7 @@ fn a_failed_witness_ends_the_check(rt: HostRuntime) {
 /// The answer by sets of states, if there is one.
 fn answer_by_sets<R: AllocGlobal + Threads + Wait + Clone + Copy + Drop + Send + Sync>(
     rt: &R,
-    row: &Row,
+    row: &ShownCheck,
     writers: &mut Narrows,
 ) -> Option<bool> {
     check_asked(
@@ -246,7 +246,7 @@ fn answer_by_sets<R: AllocGlobal + Threads + Wait + Clone + Copy + Drop + Send +
 
 fn has_sets_alone<R: Abort + AllocGlobal + Threads + Wait + Clone + Copy + Drop + Send + Sync>(
     rt: &R,
-    row: &Row,
+    row: &ShownCheck,
 ) {
     let mut writers = ample_writers(rt.alloc());
     holds!(rt; answer_by_sets(rt, row, &mut writers) == Some(row.holds), row.formula);

@@ -1,14 +1,14 @@
 // What a watcher is told of a check: each stage that its way has, and both texts once they are read.
 
 use crate::common::{DEFAULTS, holds, holds_of};
-use crate::unwritten::{Written, unwritten};
+use crate::unwritten::{TextBuffers, unwritten};
 use calculus::closed::Closed;
 use engines::engine::check_asked;
 use engines::request::{Check, ReportForm, Wanted};
 use engines::watch::Watcher;
-use gauge::{Gauge, Reading};
+use game::gauge::{Gauge, GaugeReading};
+use game::observer::{Observer, Stage};
 use lts::Lts;
-use measures::observer::{Observer, Stage};
 use samples::texts::{RING, unseeded};
 use std::process::Abort;
 use std::sync::Wait;
@@ -18,15 +18,15 @@ use std::thread::Threads;
 /// How often each stage was told, a digit for each from the last on: reading the system, reading the formula, building, searching,
 /// lifting, evaluating, writing, making evidence, turns of a worker; then how many states the system had that was read.
 #[derive(Drop)]
-struct Told {
+struct StageCounts {
     digits: AtomicU64,
     states: AtomicU64,
     gauge: Gauge,
 }
 
-impl Told {
-    fn new() -> Told {
-        Told {
+impl StageCounts {
+    fn new() -> StageCounts {
+        StageCounts {
             digits: AtomicU64::new(0),
             states: AtomicU64::new(0),
             gauge: Gauge::new(),
@@ -34,7 +34,7 @@ impl Told {
     }
 }
 
-impl Observer for Told {
+impl Observer for StageCounts {
     fn sees(&self, stage: Stage) {
         let digit = match stage {
             Stage::ReadingSystem => 1,
@@ -62,7 +62,7 @@ impl Observer for Told {
     }
 }
 
-impl Watcher for Told {
+impl Watcher for StageCounts {
     fn has_read(&self, system: &Lts, _formula: &Closed) {
         let states = u64::from(system.states());
         self.states.fetch_add(states, Ordering::SeqCst);
@@ -92,8 +92,8 @@ fn answer<R: AllocGlobal + Threads + Wait + Clone + Copy + Drop + Send + Sync>(
     rt: &R,
     plain: bool,
     wanted: Wanted,
-    told: &Told,
-    writers: &mut Written,
+    told: &StageCounts,
+    writers: &mut TextBuffers,
 ) -> Option<bool> {
     check_asked(
         rt,
@@ -114,26 +114,26 @@ fn is_checked<R: Abort + AllocGlobal + Threads + Wait + Clone + Copy + Drop + Se
     rt: &R,
     plain: bool,
     wanted: Wanted,
-    told: &Told,
+    told: &StageCounts,
 ) {
     let mut writers = unwritten(rt.alloc());
     holds!(rt; answer(rt, plain, wanted, told, &mut writers) == Some(true));
 }
 
 /// The stages were told this often.
-fn has_stages(rt: &impl Abort, told: &Told, digits: u64) {
+fn has_stages(rt: &impl Abort, told: &StageCounts, digits: u64) {
     let found = told.digits.load(Ordering::SeqCst);
     holds_of(rt, found == digits, "stages", found);
 }
 
 /// The ring's two states were read once.
-fn has_states(rt: &impl Abort, told: &Told) {
+fn has_states(rt: &impl Abort, told: &StageCounts) {
     holds!(rt; told.states.load(Ordering::SeqCst) == 2);
 }
 
 #[test]
 fn a_check_by_a_game_tells_of_its_stages(rt: HostRuntime) {
-    let told = Told::new();
+    let told = StageCounts::new();
     is_checked(&rt, false, NOTHING, &told);
     // A ranking that is guessed is good, so that no game is built.
     has_stages(&rt, &told, 1_001_011);
@@ -142,7 +142,7 @@ fn a_check_by_a_game_tells_of_its_stages(rt: HostRuntime) {
 
 #[test]
 fn a_check_by_sets_tells_of_its_stages(rt: HostRuntime) {
-    let told = Told::new();
+    let told = StageCounts::new();
     is_checked(&rt, true, NOTHING, &told);
     has_stages(&rt, &told, 1_100_011);
     has_states(&rt, &told);
@@ -157,10 +157,10 @@ const EVIDENCE: Wanted = Wanted {
 
 #[test]
 fn a_check_with_evidence_tells_that_it_is_made(rt: HostRuntime) {
-    let told = Told::new();
+    let told = StageCounts::new();
     is_checked(&rt, false, EVIDENCE, &told);
     has_stages(&rt, &told, 11_001_111);
     // Two states with two nodes each are built.
-    let whole = Reading { done: 4, whole: 4 };
+    let whole = GaugeReading { done: 4, whole: 4 };
     holds!(&rt; told.gauge.reading() == Some(whole));
 }

@@ -1,11 +1,11 @@
 // Checks that are strict about the words of their formulas, and the same without. Which words are on no transition was read off the system.
 
 use crate::common::{DEFAULTS, same};
-use crate::unwritten::{Written, unwritten};
+use crate::unwritten::{TextBuffers, unwritten};
 use engines::engine::check_asked;
 use engines::error::MuError;
 use engines::request::{Check, ReportForm, Wanted};
-use measures::observer::Silent;
+use game::observer::Silent;
 use samples::texts::unseeded;
 use std::alloc::{AllocError, Global};
 use std::process::Abort;
@@ -43,7 +43,7 @@ fn outcome<R: Threads + Wait + Clone + Copy + Drop + Send + Sync>(
     told(alloc, &answer, is_mute(&writers))
 }
 
-fn is_mute(writers: &Written) -> bool {
+fn is_mute(writers: &TextBuffers) -> bool {
     writers.report.is_empty()
         && writers.game.is_empty()
         && writers.even.is_empty()

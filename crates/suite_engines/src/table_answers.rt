@@ -4,9 +4,9 @@ use crate::common::{DEFAULTS, holds, is_text, system_of};
 use calculus::closed::Closed;
 use engines::request::Table;
 use engines::watch::Watcher;
-use gauge::Gauge;
+use game::gauge::Gauge;
+use game::observer::{Observer, Stage};
 use lts::Lts;
-use measures::observer::{Observer, Stage};
 use samples::texts::RING;
 use samples::writers::{AtEnd, Narrow};
 use std::alloc::Global;
@@ -118,11 +118,11 @@ fn failed_writes_are_told(rt: HostRuntime) {
 
 /// How many states the systems had together of which a watcher was told that they and a formula are read.
 #[derive(Drop)]
-struct Told {
+struct StatesRead {
     states: AtomicU64,
 }
 
-impl Observer for Told {
+impl Observer for StatesRead {
     fn sees(&self, _stage: Stage) {}
 
     fn gauge(&self) -> Option<&Gauge> {
@@ -130,7 +130,7 @@ impl Observer for Told {
     }
 }
 
-impl Watcher for Told {
+impl Watcher for StatesRead {
     fn has_read(&self, system: &Lts, _formula: &Closed) {
         let states = u64::from(system.states());
         self.states.fetch_add(states, Ordering::SeqCst);
@@ -145,7 +145,7 @@ fn is_told<R: Abort + AllocGlobal + Threads + Wait + Clone + Copy + Drop + Send 
     states: u64,
 ) {
     let system = system_of(rt, RING);
-    let told = Told {
+    let told = StatesRead {
         states: AtomicU64::new(0),
     };
     is_seen(rt, &system, formula, line, &told);
@@ -157,7 +157,7 @@ fn is_seen<R: Abort + AllocGlobal + Threads + Wait + Clone + Copy + Drop + Send 
     system: &Lts,
     formula: &str,
     line: &str,
-    told: &Told,
+    told: &StatesRead,
 ) {
     let mut out = Vec::new(rt.alloc());
     let request = table(rt.alloc(), false, true);

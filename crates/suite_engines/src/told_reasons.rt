@@ -6,7 +6,7 @@ use crate::engine_reports::refuses_as;
 use engines::error::MuError;
 use engines::reasons::tell_why;
 use engines::request::Why;
-use measures::observer::Silent;
+use game::observer::Silent;
 use samples::texts::{RING, unseeded};
 use samples::writers::{AtEnd, Narrow};
 use std::process::Abort;

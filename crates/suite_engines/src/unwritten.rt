@@ -3,10 +3,10 @@
 use engines::writers::Writers;
 use std::alloc::Global;
 
-pub(crate) type Written = Writers<Vec<u8>, Vec<u8>, Vec<u8>, Vec<u8>, Vec<u8>>;
+pub(crate) type TextBuffers = Writers<Vec<u8>, Vec<u8>, Vec<u8>, Vec<u8>, Vec<u8>>;
 
 /// Writers to which nothing was written yet.
-pub(crate) fn unwritten(alloc: Global) -> Written {
+pub(crate) fn unwritten(alloc: Global) -> TextBuffers {
     Writers {
         game: Vec::new(alloc),
         even: Vec::new(alloc),

@@ -2,11 +2,11 @@
 
 use crate::common::{DEFAULTS, holds, repeats};
 use crate::engine_reports::refuses_as;
-use engines::engine::check_one;
 use engines::error::MuError;
+use engines::named::check_one;
 use engines::writers::EvidenceWriters;
-use fixtures::texts::STAY;
-use samples::readers::Slow;
+use samples::readers::SlowReader;
+use samples::ring_games::STAY;
 use samples::texts::{RING, unseeded};
 use std::process::Abort;
 use std::sync::Wait;
@@ -14,7 +14,7 @@ use std::thread::Threads;
 
 /// What a check answers of these texts: the beginning of its report, and the end of it.
 #[derive(Clone, Copy)]
-struct Row {
+struct WorkedCheck {
     system: &'static str,
     formula: &'static str,
     head: &'static str,
@@ -63,80 +63,80 @@ static OF_RING: [(&str, &str); 10] = [
     ("mu X. !(X => false)", NONE),
 ];
 
-static OTHERS: [Row; 13] = [
-    Row {
+static OTHERS: [WorkedCheck; 13] = [
+    WorkedCheck {
         system: STAY,
         formula: "nu X. mu Y. (<a>X || <b>Y)",
         head: OF_TWO,
         tail: NONE,
     },
-    Row {
+    WorkedCheck {
         system: STAY,
         formula: "mu X. (<a>X || nu X. <b>X)",
         head: OF_TWO,
         tail: ALL,
     },
-    Row {
+    WorkedCheck {
         system: DEAD,
         formula: "<true>true",
         head: OF_DEAD,
         tail: NOT_LONE,
     },
-    Row {
+    WorkedCheck {
         system: DEAD,
         formula: "[true]false",
         head: OF_DEAD,
         tail: LONE,
     },
-    Row {
+    WorkedCheck {
         system: BAR,
         formula: "<a|b>true",
         head: OF_STEP,
         tail: FIRST,
     },
-    Row {
+    WorkedCheck {
         system: BAR,
         formula: "<a>true",
         head: OF_STEP,
         tail: NONE,
     },
-    Row {
+    WorkedCheck {
         system: BAR,
         formula: "<\"a|b\">true",
         head: OF_STEP,
         tail: NONE,
     },
-    Row {
+    WorkedCheck {
         system: CALL,
         formula: "<\"r(1)\">true",
         head: OF_STEP,
         tail: FIRST,
     },
-    Row {
+    WorkedCheck {
         system: CALL,
         formula: "<r>true",
         head: OF_STEP,
         tail: NONE,
     },
-    Row {
+    WorkedCheck {
         system: WIDE,
         formula: "<tau>true",
         head: OF_WIDE,
         tail: LONE,
     },
-    Row {
+    WorkedCheck {
         system: WIDE,
         formula: "[a]false",
         head: OF_WIDE,
         tail: LONE,
     },
-    Row {
+    WorkedCheck {
         system: WIDE,
         formula: "<true && !tau>true",
         head: OF_WIDE,
         tail: NOT_LONE,
     },
-    Row {
+    WorkedCheck {
         system: TWICE,
         formula: "<a>true",
         head: OF_STEP,
@@ -145,49 +145,49 @@ static OTHERS: [Row; 13] = [
 ];
 
 /// Texts that are refused, and how.
-struct Refusal {
+struct RefusedTexts {
     system: &'static str,
     formula: &'static str,
     code: &'static str,
 }
 
-static REFUSALS: [Refusal; 8] = [
-    Refusal {
+static REFUSALS: [RefusedTexts; 8] = [
+    RefusedTexts {
         system: RING,
         formula: "mu X. !X",
         code: "F6 at offset 7",
     },
-    Refusal {
+    RefusedTexts {
         system: RING,
         formula: "mu X. Y",
         code: "F5 at offset 6",
     },
-    Refusal {
+    RefusedTexts {
         system: RING,
         formula: "<a|tau>true",
         code: "F2 at offset 3",
     },
-    Refusal {
+    RefusedTexts {
         system: "des (0,2,2)\n(0,\"a\",1)\n",
         formula: "true",
         code: "A5 at line 3",
     },
-    Refusal {
+    RefusedTexts {
         system: "des (0,2,2)\n(0,\"a\",1)\n(1,\"b",
         formula: "true",
         code: "A2 at line 3",
     },
-    Refusal {
+    RefusedTexts {
         system: "des (0,2,2)\n(0,\"a\",2)\n(1,\"b\",0)\n",
         formula: "true",
         code: "A4 at line 2",
     },
-    Refusal {
+    RefusedTexts {
         system: "des (0,0,0)\n",
         formula: "true",
         code: "A6 at line 1",
     },
-    Refusal {
+    RefusedTexts {
         system: "",
         formula: "true",
         code: "A1 at line 1",
@@ -196,8 +196,8 @@ static REFUSALS: [Refusal; 8] = [
 
 const STEPS: [usize; 3] = [1, 7, 8192];
 
-fn slow(text: &str, step: usize) -> Slow<'_> {
-    Slow {
+fn slow(text: &str, step: usize) -> SlowReader<'_> {
+    SlowReader {
         left: text.as_bytes(),
         step,
         fails: false,
@@ -230,7 +230,7 @@ fn check<R: AllocGlobal + Threads + Wait + Clone + Copy + Drop + Send + Sync>(
 /// The report of the row.
 fn is_reported<R: Abort + AllocGlobal + Threads + Wait + Clone + Copy + Drop + Send + Sync>(
     rt: &R,
-    row: &Row,
+    row: &WorkedCheck,
     step: usize,
 ) {
     let mut out = Vec::new(rt.alloc());
@@ -242,7 +242,7 @@ fn is_reported<R: Abort + AllocGlobal + Threads + Wait + Clone + Copy + Drop + S
 #[test]
 fn formulas_on_the_ring_are_as_worked_out_however_the_texts_come(rt: HostRuntime) {
     for (formula, tail) in &OF_RING {
-        let row = Row {
+        let row = WorkedCheck {
             system: RING,
             formula: *formula,
             head: OF_TWO,
@@ -266,7 +266,7 @@ fn formulas_on_other_systems_are_as_worked_out_however_the_texts_come(rt: HostRu
 /// The texts are refused so, and nothing is written.
 fn is_refused<R: Abort + AllocGlobal + Threads + Wait + Clone + Copy + Drop + Send + Sync>(
     rt: &R,
-    row: &Refusal,
+    row: &RefusedTexts,
     step: usize,
 ) {
     let mut out = Vec::new(rt.alloc());

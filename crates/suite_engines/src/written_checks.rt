@@ -1,15 +1,15 @@
 // What a check writes: the game, both players' evidence and the report, of formulas whose games were solved by hand (the worked examples of docs/FORMATS.md).
 
 use crate::common::{ample, holds, is_beginning, is_text, is_write_fault, says};
-use engines::engine::{check, check_one};
+use calculus::priorities::Priorities;
 use engines::error::MuError;
+use engines::named::{check, check_one};
 use engines::request::{BoardKind, Options};
 use engines::writers::EvidenceWriters;
-use fixtures::texts::{
+use samples::ring_games::{
     APART, EVEN_OF_APART, EVEN_OF_OFTEN_A, EVEN_OF_STEP, ODD_OF_APART, ODD_OF_OFTEN_A, ODD_OF_STEP,
     OFTEN_A, STAY, STEP,
 };
-use forms::priorities::Priorities;
 use samples::texts::{RING, unseeded};
 use samples::writers::{AMPLE, Narrow};
 use std::alloc::Global;
@@ -28,7 +28,7 @@ fn options(priorities: Priorities) -> Options {
 }
 
 /// A check with its texts, in the order in which they are written, and its answer.
-struct Texts {
+struct CheckWithTexts {
     system: &'static str,
     formula: &'static str,
     priorities: Priorities,
@@ -39,8 +39,8 @@ struct Texts {
     report: &'static str,
 }
 
-static CHECKS: [Texts; 4] = [
-    Texts {
+static CHECKS: [CheckWithTexts; 4] = [
+    CheckWithTexts {
         system: RING,
         formula: "<a>true",
         priorities: Priorities::Nested,
@@ -50,7 +50,7 @@ static CHECKS: [Texts; 4] = [
         odd: ODD_OF_STEP,
         report: "system 2 states 2 transitions initial 0\nformula <a>true\nyes 1 of 2\ninitial yes\n0 yes\n1 no\n",
     },
-    Texts {
+    CheckWithTexts {
         system: RING,
         formula: "nu X. mu Y. (<a>X || <b>Y)",
         priorities: Priorities::Nested,
@@ -60,7 +60,7 @@ static CHECKS: [Texts; 4] = [
         odd: ODD_OF_OFTEN_A,
         report: "system 2 states 2 transitions initial 0\nformula (nu X. (mu Y. (<a>X || <b>Y)))\nyes 2 of 2\ninitial yes\n0 yes\n1 yes\n",
     },
-    Texts {
+    CheckWithTexts {
         system: RING,
         formula: "nu X. mu Y. (<a>X || <b>Y)",
         priorities: Priorities::Dependent,
@@ -70,7 +70,7 @@ static CHECKS: [Texts; 4] = [
         odd: ODD_OF_OFTEN_A,
         report: "system 2 states 2 transitions initial 0\nformula (nu X. (mu Y. (<a>X || <b>Y)))\nyes 2 of 2\ninitial yes\n0 yes\n1 yes\n",
     },
-    Texts {
+    CheckWithTexts {
         system: STAY,
         formula: "nu X. (<a>X && mu Y. <b>Y)",
         priorities: Priorities::Dependent,
@@ -84,16 +84,16 @@ static CHECKS: [Texts; 4] = [
 
 /// A writer for each text.
 #[derive(Drop)]
-struct Writers {
+struct NarrowWriters {
     game: Narrow,
     even: Narrow,
     odd: Narrow,
     report: Narrow,
 }
 
-impl Writers {
-    fn new(alloc: Global) -> Writers {
-        Writers {
+impl NarrowWriters {
+    fn new(alloc: Global) -> NarrowWriters {
+        NarrowWriters {
             game: Narrow::new(alloc, 9, AMPLE),
             even: Narrow::new(alloc, 9, AMPLE),
             odd: Narrow::new(alloc, 9, AMPLE),
@@ -106,9 +106,9 @@ impl Writers {
 fn run<R: Threads + Wait + Clone + Copy + Drop + Send + Sync>(
     rt: &R,
     alloc: Global,
-    texts: &Texts,
+    texts: &CheckWithTexts,
     is_one: bool,
-    writers: &mut Writers,
+    writers: &mut NarrowWriters,
 ) -> Result<bool, MuError> {
     let system = texts.system.as_bytes();
     let formula = texts.formula.as_bytes();
@@ -158,16 +158,16 @@ fn has_nothing(rt: &impl Abort, writer: &Narrow) {
 /// Every text is written, on one thread or by two workers.
 fn is_written<R: Abort + AllocGlobal + Threads + Wait + Clone + Copy + Drop + Send + Sync>(
     rt: &R,
-    texts: &Texts,
+    texts: &CheckWithTexts,
     is_one: bool,
 ) {
-    let mut writers = Writers::new(rt.alloc());
+    let mut writers = NarrowWriters::new(rt.alloc());
     let answer = run(rt, rt.alloc(), texts, is_one, &mut writers);
     says(rt, texts.formula, &answer, texts.initial);
     has_texts(rt, &writers, texts);
 }
 
-fn has_texts(rt: &impl Abort, writers: &Writers, texts: &Texts) {
+fn has_texts(rt: &impl Abort, writers: &NarrowWriters, texts: &CheckWithTexts) {
     has_all(rt, &writers.game, texts.game);
     has_all(rt, &writers.even, texts.even);
     has_all(rt, &writers.odd, texts.odd);
@@ -183,9 +183,9 @@ fn every_text_is_written(rt: HostRuntime) {
 /// The writers of the same check, of which one has little room: a write fails.
 fn fails<R: Abort + AllocGlobal + Threads + Wait + Clone + Copy + Drop + Send + Sync>(
     rt: &R,
-    texts: &Texts,
+    texts: &CheckWithTexts,
     is_one: bool,
-    writers: &mut Writers,
+    writers: &mut NarrowWriters,
 ) {
     let answer = run(rt, rt.alloc(), texts, is_one, writers);
     is_write_fault(rt, &answer);
@@ -194,16 +194,16 @@ fn fails<R: Abort + AllocGlobal + Threads + Wait + Clone + Copy + Drop + Send + 
 /// With so little room for the game nothing else is written.
 fn game_fails<R: Abort + AllocGlobal + Threads + Wait + Clone + Copy + Drop + Send + Sync>(
     rt: &R,
-    texts: &Texts,
+    texts: &CheckWithTexts,
     room: usize,
 ) {
-    let mut writers = Writers::new(rt.alloc());
+    let mut writers = NarrowWriters::new(rt.alloc());
     writers.game = Narrow::new(rt.alloc(), 9, room);
     fails(rt, texts, false, &mut writers);
     has_cut_game(rt, &writers, texts, room);
 }
 
-fn has_cut_game(rt: &impl Abort, writers: &Writers, texts: &Texts, room: usize) {
+fn has_cut_game(rt: &impl Abort, writers: &NarrowWriters, texts: &CheckWithTexts, room: usize) {
     has(rt, &writers.game, texts.game, room);
     has_nothing(rt, &writers.even);
     has_nothing(rt, &writers.odd);
@@ -222,16 +222,16 @@ fn a_failed_game_ends_the_check(rt: HostRuntime) {
 /// With so little room for Odd's evidence no report is written.
 fn evidence_fails<R: Abort + AllocGlobal + Threads + Wait + Clone + Copy + Drop + Send + Sync>(
     rt: &R,
-    texts: &Texts,
+    texts: &CheckWithTexts,
     room: usize,
 ) {
-    let mut writers = Writers::new(rt.alloc());
+    let mut writers = NarrowWriters::new(rt.alloc());
     writers.odd = Narrow::new(rt.alloc(), 9, room);
     fails(rt, texts, false, &mut writers);
     has_cut_evidence(rt, &writers, texts, room);
 }
 
-fn has_cut_evidence(rt: &impl Abort, writers: &Writers, texts: &Texts, room: usize) {
+fn has_cut_evidence(rt: &impl Abort, writers: &NarrowWriters, texts: &CheckWithTexts, room: usize) {
     has_all(rt, &writers.game, texts.game);
     has_all(rt, &writers.even, texts.even);
     has(rt, &writers.odd, texts.odd, room);
@@ -250,16 +250,16 @@ fn failed_evidence_ends_the_check(rt: HostRuntime) {
 /// With so little room for the report the other texts are whole.
 fn report_fails<R: Abort + AllocGlobal + Threads + Wait + Clone + Copy + Drop + Send + Sync>(
     rt: &R,
-    texts: &Texts,
+    texts: &CheckWithTexts,
     room: usize,
 ) {
-    let mut writers = Writers::new(rt.alloc());
+    let mut writers = NarrowWriters::new(rt.alloc());
     writers.report = Narrow::new(rt.alloc(), 9, room);
     fails(rt, texts, true, &mut writers);
     has_cut_report(rt, &writers, texts, room);
 }
 
-fn has_cut_report(rt: &impl Abort, writers: &Writers, texts: &Texts, room: usize) {
+fn has_cut_report(rt: &impl Abort, writers: &NarrowWriters, texts: &CheckWithTexts, room: usize) {
     has_all(rt, &writers.game, texts.game);
     has_all(rt, &writers.odd, texts.odd);
     has(rt, &writers.report, texts.report, room);
@@ -277,7 +277,7 @@ fn a_failed_report_leaves_the_other_texts_whole(rt: HostRuntime) {
 /// A check that writes the game and the report alone.
 fn run_game<R: Abort + AllocGlobal + Threads + Wait + Clone + Copy + Drop + Send + Sync>(
     rt: &R,
-    texts: &Texts,
+    texts: &CheckWithTexts,
     game: &mut Narrow,
     out: &mut Narrow,
 ) -> Result<bool, MuError> {
@@ -299,7 +299,7 @@ fn run_game<R: Abort + AllocGlobal + Threads + Wait + Clone + Copy + Drop + Send
 
 fn writes_the_game<R: Abort + AllocGlobal + Threads + Wait + Clone + Copy + Drop + Send + Sync>(
     rt: &R,
-    texts: &Texts,
+    texts: &CheckWithTexts,
 ) {
     let mut game = ample(rt, 9);
     let mut report = ample(rt, 9);

@@ -7,16 +7,16 @@ use crate::common::{counted, holds};
 use crate::questions::{Question, roll_nested_question, roll_question};
 use arena_search::measures::{Measures, Side, least_measures};
 use arena_search::ranking::{GuessedRanking, ranking};
-use forms::limits::GREATEST_PRIORITY;
+use calculus::limits::GREATEST_PRIORITY;
 use game::dual::{dual, greatest_priority};
 use game::graph::Game;
 use meaning::plain::plain_states;
-use proposals::proposing::proposal;
 use rankings::sheet::Sheet;
 use rankings::winners::root_winners;
 use samples::dice::Dice;
 use std::process::Abort;
 use std::thread::Threads;
+use verdicts::proposing::guessed_table;
 
 // How many systems and formulas each of two tests has, how many whose binders alternate three times or four, and how many with five binders or six.
 const QUESTIONS: u32 = 5_000;
@@ -56,12 +56,9 @@ fn is_ranked(rt: &(impl Abort + Threads + AllocGlobal + Sync), question: &Questi
     }
 }
 
-// Whether what is found of a player's measures is a good proposal for a game.
+// Whether what is found of a player's measures is the least progress table of a game.
 fn is_least(rt: &impl AllocGlobal, measures: &Measures, side: Side, game: &Game) -> bool {
-    match proposal(rt.alloc(), measures, side, game) {
-        Some(proposal) => proposal.into_settled(game).is_some(),
-        None => false,
-    }
+    guessed_table(rt.alloc(), measures, side, game).is_some()
 }
 
 fn dual_of(rt: &(impl Abort + AllocGlobal), game: &Game) -> Game {
@@ -86,12 +83,12 @@ fn is_measured(rt: &(impl Abort + AllocGlobal), question: &Question) -> bool {
 
 // Of how many questions rankings are found, and of how many measures.
 #[derive(Clone, Copy)]
-struct Tally {
+struct GuessCounts {
     ranked: u32,
     measured: u32,
 }
 
-impl Tally {
+impl GuessCounts {
     // One more question, which is let go.
     fn ask(&mut self, rt: &(impl Abort + Threads + AllocGlobal + Sync), question: Question) {
         if is_ranked(rt, &question) {
@@ -109,7 +106,7 @@ impl Tally {
     }
 }
 
-const NONE_YET: Tally = Tally {
+const NONE_YET: GuessCounts = GuessCounts {
     ranked: 0,
     measured: 0,
 };

@@ -4,8 +4,8 @@
 ghost use Rattle.std.specs.Prelude.{◌≡◌, ◌<◌, ◌≤◌, true};
 
 use calculus::closed::Closed;
-use certify::decide::certified_winners;
-use forms::form::Normal;
+use calculus::form::Normal;
+use evidence::decide::certified_winners;
 use game::build::build;
 use game::graph::Game;
 use lts::Lts;
@@ -13,7 +13,7 @@ use measures::settle::solve_one;
 use measures::table::Settled;
 use normal::make::normal;
 use samples::dice::{Dice, roll_game};
-use samples::games::{Row, game_of_rows};
+use samples::games::{GameRow, game_of_rows};
 use samples::texts::{parsed_formula, system_read};
 use std::process::Abort;
 use std::thread::Threads;
@@ -104,7 +104,7 @@ pub(crate) fn game(
 }
 
 /// The game of these rows.
-pub(crate) fn game_by_hand(rt: &(impl Abort + AllocGlobal), rows: &[Row]) -> Game {
+pub(crate) fn game_by_hand(rt: &(impl Abort + AllocGlobal), rows: &[GameRow]) -> Game {
     game_of_rows(rt, rows).expect(rt, "a game")
 }
 

@@ -4,10 +4,10 @@ ghost use Rattle.std.specs.Prelude.{◌≡◌, ◌<◌, ◌≤◌, length};
 
 use crate::common::{certified, holds, holds_for, is_marked, solved};
 use crate::known_games::{finished, owner_of, push};
-use certify::decide::certified_winners;
+use evidence::decide::certified_winners;
+use game::gauge::Gauge;
 use game::graph::{Game, GameBuilder};
 use game::player::Player;
-use gauge::Gauge;
 use measures::settle::even_wins;
 use measures::table::Settled;
 use samples::dice::Dice;
@@ -22,29 +22,29 @@ const MOST_LIFTED: u32 = 8;
 
 // Of games at random how many vertices there are at most, how many priorities, and how many steps from each vertex at most.
 #[derive(Clone, Copy)]
-struct Shape {
+struct RandomGameLimits {
     vertices: u32,
     priorities: u32,
     steps: u32,
 }
 
-static SHAPES: [Shape; 4] = [
-    Shape {
+static SHAPES: [RandomGameLimits; 4] = [
+    RandomGameLimits {
         vertices: 8,
         priorities: 8,
         steps: 4,
     },
-    Shape {
+    RandomGameLimits {
         vertices: 12,
         priorities: 4,
         steps: 2,
     },
-    Shape {
+    RandomGameLimits {
         vertices: 12,
         priorities: 33,
         steps: 3,
     },
-    Shape {
+    RandomGameLimits {
         vertices: 40,
         priorities: 12,
         steps: 2,
@@ -102,7 +102,7 @@ fn push_rolled(
     rt: &(impl Abort + AllocGlobal),
     builder: &mut GameBuilder,
     dice: &mut Dice,
-    shape: Shape,
+    shape: RandomGameLimits,
 )
     requires some { (0 < shape.vertices) × (0 < shape.steps) }
     requires few { (0 < shape.priorities) × (shape.priorities ≤ 33) }
@@ -120,7 +120,7 @@ fn push_rolled(
     drop(row);
 }
 
-fn rolled_game(rt: &(impl Abort + AllocGlobal), dice: &mut Dice, shape: Shape) -> Game {
+fn rolled_game(rt: &(impl Abort + AllocGlobal), dice: &mut Dice, shape: RandomGameLimits) -> Game {
     holds!(rt; shape.vertices > 0 && shape.steps > 0);
     holds!(rt; shape.priorities > 0 && shape.priorities <= 33);
     let mut builder = GameBuilder::new(rt.alloc());
@@ -130,11 +130,15 @@ fn rolled_game(rt: &(impl Abort + AllocGlobal), dice: &mut Dice, shape: Shape) -
     finished(rt, builder)
 }
 
-fn are_won(rt: &(impl Abort + AllocGlobal + Threads + Sync), dice: &mut Dice, shape: Shape) {
+fn are_won(
+    rt: &(impl Abort + AllocGlobal + Threads + Sync),
+    dice: &mut Dice,
+    shape: RandomGameLimits,
+) {
     holds!(rt; shape.vertices > 0);
     for number in 0..GAMES {
         let vertices = 1 + dice.roll(shape.vertices);
-        let game = rolled_game(rt, dice, Shape { vertices, ..shape });
+        let game = rolled_game(rt, dice, RandomGameLimits { vertices, ..shape });
         is_won(rt, &game, number);
         drop(game);
     }
@@ -150,7 +154,7 @@ fn games_at_random_are_won(rt: HostRuntime) {
 
 #[test]
 fn a_gauge_shows_how_far_a_guess_has_come(rt: HostRuntime) {
-    let shape = Shape {
+    let shape = RandomGameLimits {
         vertices: 70_000,
         priorities: 10,
         steps: 3,

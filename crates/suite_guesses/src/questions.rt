@@ -5,7 +5,7 @@ ghost use Rattle.std.specs.Prelude.{◌<◌, ◌≤◌};
 use crate::common;
 use crate::common::{push_step, push_text, system_text};
 use calculus::closed::Closed;
-use forms::form::Normal;
+use calculus::form::Normal;
 use game::graph::Game;
 use lts::Lts;
 use samples::dice::Dice;
@@ -93,15 +93,15 @@ fn roll_leaf(rt: &impl Abort, dice: &mut Dice, text: &mut String, binders: u32) 
 
 // How many parentheses and binders are open.
 #[derive(Clone, Copy)]
-struct Open {
+struct OpenBrackets {
     parentheses: u32,
     binders: u32,
 }
 
-impl Open {
+impl OpenBrackets {
     // So many more of each are open.
-    fn and(self, parentheses: u32, binders: u32) -> Open {
-        Open {
+    fn and(self, parentheses: u32, binders: u32) -> OpenBrackets {
+        OpenBrackets {
             parentheses: self.parentheses.saturating_add(parentheses),
             binders: self.binders.saturating_add(binders),
         }
@@ -125,7 +125,12 @@ fn roll_operand(rt: &impl Abort, dice: &mut Dice, text: &mut String, binders: u3
 }
 
 // One more binder, action or junction.
-fn roll_head(rt: &impl Abort, dice: &mut Dice, text: &mut String, open: Open) -> Open {
+fn roll_head(
+    rt: &impl Abort,
+    dice: &mut Dice,
+    text: &mut String,
+    open: OpenBrackets,
+) -> OpenBrackets {
     match dice.roll(6) {
         0 | 1 if open.binders < 4 => {
             roll_binder(rt, dice, text, open.binders);
@@ -143,8 +148,8 @@ fn roll_head(rt: &impl Abort, dice: &mut Dice, text: &mut String, open: Open) ->
 }
 
 // So many heads. The answer is what they leave open.
-fn roll_heads(rt: &impl Abort, dice: &mut Dice, text: &mut String, heads: u32) -> Open {
-    let mut open = Open {
+fn roll_heads(rt: &impl Abort, dice: &mut Dice, text: &mut String, heads: u32) -> OpenBrackets {
+    let mut open = OpenBrackets {
         parentheses: 0,
         binders: 0,
     };

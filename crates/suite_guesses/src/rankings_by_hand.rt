@@ -1,8 +1,8 @@
 // Rankings of arenas, made by hand: which are good, and what they tell.
 
 use crate::common::{formula, holds, normal_form, system};
-use columns::column::{Column, Columns, Marked};
-use forms::form::Normal;
+use calculus::form::Normal;
+use game::column::{Column, Columns, Marked};
 use lts::Lts;
 use rankings::sheet::Sheet;
 use rankings::winners::root_winners;
@@ -13,13 +13,19 @@ use std::thread::Threads;
 const SYSTEM: &str = "des (0,2,3)\n(0,\"a\",1)\n(2,\"b\",2)\n";
 
 // The columns as they are written, by node.
-type Rows = &'static [[u64; 3]];
+type WrittenColumns = &'static [[u64; 3]];
 
 // The states that Even wins by a ranking, if it is a good one.
-type Found = Option<[bool; 3]>;
+type WinningStates = Option<[bool; 3]>;
 
 // The columns of a ranking for a formula, the shifts of both players, and what it tells.
-type Case = (&'static str, Rows, &'static [u32], &'static [u32], Found);
+type Case = (
+    &'static str,
+    WrittenColumns,
+    &'static [u32],
+    &'static [u32],
+    WinningStates,
+);
 
 fn list_of(rt: &(impl Abort + AllocGlobal), numbers: &[u32]) -> Vec<u32> {
     Vec::from_slice(rt.alloc(), numbers).expect(rt, "memory")
@@ -31,7 +37,7 @@ fn push_words(rt: &(impl Abort + AllocGlobal), words: &mut Vec<Vec<u64>>, row: &
 }
 
 // The words of each node's column.
-fn push_rows(rt: &(impl Abort + AllocGlobal), words: &mut Vec<Vec<u64>>, rows: Rows) {
+fn push_rows(rt: &(impl Abort + AllocGlobal), words: &mut Vec<Vec<u64>>, rows: WrittenColumns) {
     for row in rows {
         push_words(rt, words, row.as_slice());
     }
@@ -57,7 +63,7 @@ fn push_listed(rt: &impl Abort, nodes: &mut Vec<Column>, count: usize) {
     }
 }
 
-fn columns_of(rt: &(impl Abort + AllocGlobal), rows: Rows) -> Columns {
+fn columns_of(rt: &(impl Abort + AllocGlobal), rows: WrittenColumns) -> Columns {
     let mut nodes = Vec::new(rt.alloc());
     let mut words = Vec::new(rt.alloc());
     push_listed(rt, &mut nodes, rows.len());
@@ -80,7 +86,7 @@ fn winners(
 }
 
 // Whether marks are as they are found.
-fn is_found(marks: &Option<Vec<bool>>, found: &Found) -> bool {
+fn is_found(marks: &Option<Vec<bool>>, found: &WinningStates) -> bool {
     match (marks, found) {
         (Some(marks), Some(found)) => marks.as_slice() == found.as_slice(),
         (None, None) => true,
@@ -93,7 +99,7 @@ fn tells(
     rt: &(impl Abort + Threads + AllocGlobal + Sync),
     text: &str,
     sheet: &Sheet,
-    found: &Found,
+    found: &WinningStates,
 ) -> bool {
     let lts = system(rt, SYSTEM);
     let formula = formula(rt, text);
@@ -112,7 +118,7 @@ fn is_told(
     rt: &(impl Abort + Threads + AllocGlobal + Sync),
     text: &str,
     sheet: &Option<Sheet>,
-    found: &Found,
+    found: &WinningStates,
 ) {
     let is_so = match sheet {
         Some(sheet) => tells(rt, text, sheet, found),
@@ -210,9 +216,9 @@ fn fixpoints_that_only_go_on(rt: HostRuntime) {
 }
 
 // A node's marks of the states that Odd wins, and the numbers of both players, with twos for what is counted.
-type Row = (u64, u64, u64);
+type NodeNumbers = (u64, u64, u64);
 
-fn marked(marks: u32, row: Row) -> Marked {
+fn marked(marks: u32, row: NodeNumbers) -> Marked {
     let (_, even, odd) = row;
     Marked {
         marks,
@@ -225,7 +231,7 @@ fn marked(marks: u32, row: Row) -> Marked {
 }
 
 // Nodes that are won as these rows say.
-fn push_won(rt: &impl Abort, nodes: &mut Vec<Column>, rows: &[Row]) {
+fn push_won(rt: &impl Abort, nodes: &mut Vec<Column>, rows: &[NodeNumbers]) {
     let mut place = 0_u32;
     for row in rows {
         let column = Column::Won(marked(place, *row));
@@ -234,7 +240,7 @@ fn push_won(rt: &impl Abort, nodes: &mut Vec<Column>, rows: &[Row]) {
     }
 }
 
-fn push_marks(rt: &impl Abort, marks: &mut Vec<u64>, rows: &[Row]) {
+fn push_marks(rt: &impl Abort, marks: &mut Vec<u64>, rows: &[NodeNumbers]) {
     for (odds, _, _) in rows {
         marks.push(*odds).expect(rt, "memory");
     }
@@ -247,7 +253,7 @@ fn push_counts(rt: &(impl Abort + AllocGlobal), counts: &mut Vec<Vec<u32>>) {
 }
 
 // Columns that count by one list.
-fn counted_columns(rt: &(impl Abort + AllocGlobal), rows: &[Row]) -> Columns {
+fn counted_columns(rt: &(impl Abort + AllocGlobal), rows: &[NodeNumbers]) -> Columns {
     let mut nodes = Vec::new(rt.alloc());
     let mut marks = Vec::new(rt.alloc());
     let mut counts = Vec::new(rt.alloc());
@@ -263,7 +269,11 @@ fn counted_columns(rt: &(impl Abort + AllocGlobal), rows: &[Row]) -> Columns {
 }
 
 // Where no way is endless a box is won by how far the end is, and the binder above it by one more; at the last state by nobody's end.
-fn is_counted(rt: &(impl Abort + Threads + AllocGlobal + Sync), rows: &[Row], found: &Found) {
+fn is_counted(
+    rt: &(impl Abort + Threads + AllocGlobal + Sync),
+    rows: &[NodeNumbers],
+    found: &WinningStates,
+) {
     let columns = counted_columns(rt, rows);
     let sheet = Sheet::of(columns, list_of(rt, &[0, 1]), list_of(rt, &[1, 4]));
     is_told(rt, "mu X. [true]X", &sheet, found);
@@ -271,7 +281,7 @@ fn is_counted(rt: &(impl Abort + Threads + AllocGlobal + Sync), rows: &[Row], fo
 }
 
 // A binder, its operand and its variable count by the same list. Two are good; of the others the first stays, and then one rises, climbs, lies and wraps.
-static COUNTS: [(&[Row], Found); 7] = [
+static COUNTS: [(&[NodeNumbers], WinningStates); 7] = [
     (
         &[(4, 2, 3), (4, 0, 7), (4, 2, 5)],
         Some([true, true, false]),

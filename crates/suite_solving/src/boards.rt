@@ -9,7 +9,7 @@ use game::name::GameName;
 use game::player::Player;
 use measures::measure::Measure;
 use measures::table::PlainTable;
-use samples::games::Row;
+use samples::games::GameRow;
 use std::alloc::Global;
 use std::marker::Brand;
 use std::process::Abort;
@@ -19,7 +19,7 @@ use tables::shard::Shard;
 
 // The game of `<a>true` on two states, of which the first leads to the second by a, and the second to the first by b. Vertex 4
 // leads to the false sink alone.
-static DIAMOND: [Row; 6] = [
+static DIAMOND: [GameRow; 6] = [
     (Player::Even, 0, &[0]),
     (Player::Even, 1, &[1]),
     (Player::Even, 0, &[5]),
@@ -44,7 +44,7 @@ fn rises_once<B: Board>(rt: &impl Abort, board: &B, source: &PlainTable)
     holds!(rt; !board.raise(&mut seat, 4, &top), "it rises once");
 }
 
-/// The same to what the vertex has in the settled table.
+/// A seat reads a vertex, raises it to what it has in the settled table, and raises it once more.
 pub(crate) fn rises_to_the_settled<B: Board, R: Abort + AllocGlobal>(rt: &R, board: &B, game: &Game)
     requires same { game.now ≡ B.game board.now }
     requires vertex { 4 < length game.now.vertices }
@@ -67,7 +67,7 @@ fn is_low(rt: &impl Abort, m: &Measure) {
     holds!(rt; !m.is_top() && m.counts() == [0].as_slice());
 }
 
-// The same over so many shards, and what the board is finished into.
+// A seat over so many shards raises a vertex to what it has in the settled table; then what the board is finished into.
 fn rises_on<K: GameName, R: Abort + AllocGlobal + Wait + Clone + Copy + Drop>(
     rt: &R,
     game: &Arc<Game, Global>,

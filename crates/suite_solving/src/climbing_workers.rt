@@ -23,14 +23,14 @@ use workers::solving::solve;
 
 /// Counts the turns of each of 64 workers.
 #[derive(Drop)]
-pub(crate) struct Turns {
+pub(crate) struct TurnsByWorker {
     by: [AtomicU64; 64],
 }
 
-impl Turns {
+impl TurnsByWorker {
     /// None was counted yet.
     pub(crate) fn new() -> Self {
-        Turns {
+        TurnsByWorker {
             by: array::from_fn(|_| AtomicU64::new(0)),
         }
     }
@@ -54,7 +54,7 @@ impl Turns {
     }
 }
 
-impl Gate for Turns {
+impl Gate for TurnsByWorker {
     fn before(&self, worker: usize, _v: u32) {
         if worker < self.by.len() {
             self.by[worker].fetch_add(1, Ordering::SeqCst);
@@ -147,7 +147,7 @@ fn turns_of<R: Abort + AllocGlobal + Threads + Wait + Sync>(
 ) -> u64
     requires { 0 < workers }
 {
-    let turns = Turns::new();
+    let turns = TurnsByWorker::new();
     lifted_over_words(rt, game, workers, &turns);
     turns.all()
 }
@@ -176,7 +176,7 @@ fn a_climb_takes_many_workers_at_most_twice_the_lifts_of_one(rt: HostRuntime) {
 }
 
 // Whether each of so many workers took at least a tenth of the turns.
-fn are_shared(turns: &Turns, workers: usize) -> bool {
+fn are_shared(turns: &TurnsByWorker, workers: usize) -> bool {
     for worker in 0..workers {
         if turns.of(worker) < turns.all() / 10 {
             return false;
@@ -214,7 +214,7 @@ fn share<R: Abort + AllocGlobal + Threads + Wait + Sync>(
 )
     requires { 0 < workers }
 {
-    let turns = Turns::new();
+    let turns = TurnsByWorker::new();
     lifted_over_words(rt, game, workers, &turns);
     let all = turns.all();
     holds_of(rt, all >= 100_000 && all < 220_000, "all turns are", all);

@@ -10,7 +10,7 @@ use game::name::GameName;
 use measures::settle::{settle, solve_one};
 use measures::table::{PlainTable, Settled, opening};
 use samples::dice::{Dice, roll_game};
-use samples::games::{Row, game_of_rows, shared_game_of};
+use samples::games::{GameRow, game_of_rows, shared_game_of};
 use std::alloc::Global;
 use std::process::Abort;
 use std::sync::{Arc, Wait};
@@ -37,7 +37,7 @@ pub(crate) fn require(rt: &impl Abort, is_so: bool, text: &str)
     assert!(rt; is_so, "{text}");
 }
 
-/// The same of a number, which is told with the text.
+/// What is claimed of a number is so, or else the test ends and tells the text and the number.
 pub(crate) fn holds_of(rt: &impl Abort, is_so: bool, text: &str, number: u64)
     ensures { is_so ≡ true }
 {
@@ -45,12 +45,12 @@ pub(crate) fn holds_of(rt: &impl Abort, is_so: bool, text: &str, number: u64)
 }
 
 /// The game of these vertices.
-pub(crate) fn game_from(rt: &(impl Abort + AllocGlobal), rows: &[Row]) -> Game {
+pub(crate) fn game_from(rt: &(impl Abort + AllocGlobal), rows: &[GameRow]) -> Game {
     game_of_rows(rt, rows).expect(rt, "a game")
 }
 
 /// The game of these vertices, to be shared.
-pub(crate) fn shared_game(rt: &(impl Abort + AllocGlobal), rows: &[Row]) -> Arc<Game, Global> {
+pub(crate) fn shared_game(rt: &(impl Abort + AllocGlobal), rows: &[GameRow]) -> Arc<Game, Global> {
     shared_game_of(rt, rows).expect(rt, "a game")
 }
 
@@ -76,7 +76,7 @@ pub(crate) fn opened(rt: &(impl Abort + AllocGlobal), game: &Game) -> PlainTable
     opening(rt.alloc(), game).expect(rt, "memory")
 }
 
-/// The same, settled.
+/// The table that lifting ends with.
 pub(crate) fn settled(rt: &(impl Abort + AllocGlobal), game: &Game) -> PlainTable
     ensures { result.game ≡ game.now }
 {

@@ -4,7 +4,7 @@
 ghost use Rattle.std.specs.Prelude.{◌≡◌, ◌*◌, ◌+◌, ◌<◌};
 ghost use Rattle.suite_solving.specs.declared.hubs.TheConstants.{BETWEEN};
 
-use crate::climbing_workers::{Turns, built, lifted_over_words};
+use crate::climbing_workers::{TurnsByWorker, built, lifted_over_words};
 use crate::common::{holds, holds_of};
 use game::graph::{Game, GameBuilder};
 use game::player::Player;
@@ -78,7 +78,7 @@ impl Hub {
 /// Counts turns, and holds the first of two workers until the hub has had all of its turns.
 #[derive(Drop)]
 struct Holding {
-    turns: Turns,
+    turns: TurnsByWorker,
     hub: u32,
     of_hub: AtomicU64,
 }
@@ -114,7 +114,7 @@ fn what_is_pending_is_given_once_however_often_its_hub_rises(rt: HostRuntime) {
     };
     let game = hub.game(&rt);
     let gate = Holding {
-        turns: Turns::new(),
+        turns: TurnsByWorker::new(),
         hub: hub.trap() + 1,
         of_hub: AtomicU64::new(0),
     };

@@ -11,7 +11,7 @@ use game::player::Player;
 use measures::measure::Measure;
 use measures::settle::is_settled;
 use measures::table::PlainTable;
-use samples::games::Row;
+use samples::games::GameRow;
 use std::alloc::Global;
 use std::process::Abort;
 use std::sync::atomic::{AtomicBool, AtomicU64, Ordering};
@@ -25,7 +25,7 @@ use workers::solving::solve;
 
 // Even vertices are one worker's own, of which the first reads the second vertex. That rises once, at its turn, the first one of another worker, whose
 // next turn is at the fourth.
-static ROWS: [Row; 6] = [
+static ROWS: [GameRow; 6] = [
     (Player::Even, 0, &[READ]),
     (Player::Even, 1, &[AFTER]),
     (Player::Even, 0, &[2]),
@@ -88,14 +88,14 @@ impl Gate for Order {
 
 /// A board round another, on which the reader's turn takes long. In the last calls a board may settle itself: they aren't passed on.
 #[derive(Drop)]
-struct Slow<'a, B: Board> {
+struct SlowBoard<'a, B: Board> {
     inner: B,
     game: &'a Game,
     order: &'a Order,
     ghost same: { game.now ≡ B.game inner },
 }
 
-impl<'a, B: Board + Drop> Board for Slow<'a, B> {
+impl<'a, B: Board + Drop> Board for SlowBoard<'a, B> {
     type Seat = B::Seat;
 
     ghost game = { λ b. B.game b.inner };
@@ -130,7 +130,7 @@ impl<'a, B: Board + Drop> Board for Slow<'a, B> {
     fn last(&self, _seat: &mut B::Seat) {}
 
     fn finish(self, table: &mut PlainTable) {
-        let Slow { inner, game, order } = self;
+        let SlowBoard { inner, game, order } = self;
         inner.finish(table);
         order
             .is_settled
@@ -147,7 +147,7 @@ fn is_read_once_more<R: Abort + AllocGlobal + Threads + Wait + Sync>(
     requires { board_game inner ≡ arc_value game.now }
 {
     let order = &Order::new();
-    let board = Slow { inner, game, order };
+    let board = SlowBoard { inner, game, order };
     holds!(rt; solve(rt, rt.alloc(), game, board, 2, order).is_ok());
     holds!(rt; order.is_over.load(Ordering::SeqCst));
     holds!(rt; order.turns.load(Ordering::SeqCst) == 2);

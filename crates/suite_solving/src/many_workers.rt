@@ -6,14 +6,14 @@ ghost use Rattle.std.specs.Arc.{arc_value};
 use crate::common::{
     board_of_shards, board_of_words, holds, holds_of, is_least, opened, shared_game,
 };
-use fixtures::meeting::Meeting;
 use game::graph::Game;
 use game::name::GameName;
 use game::player::Player;
 use measures::measure::Measure;
 use measures::settle::is_settled;
 use measures::table::{PlainTable, Settled};
-use samples::games::Row;
+use samples::games::GameRow;
+use samples::meeting::Meeting;
 use std::alloc::{AllocError, Global};
 use std::marker::Brand;
 use std::process::Abort;
@@ -26,7 +26,7 @@ use workers::gate::{Gate, NoGate};
 use workers::solving::solve;
 
 // A ring on which Odd wins: its greatest priority is odd. Each vertex rises many times before it is top.
-static ODD_RING: [Row; 8] = [
+static ODD_RING: [GameRow; 8] = [
     (Player::Even, 1, &[1]),
     (Player::Odd, 0, &[2]),
     (Player::Even, 1, &[3]),
@@ -38,7 +38,7 @@ static ODD_RING: [Row; 8] = [
 ];
 
 // A way that Even leaves at its end, where she wins: on it the measures stay below top.
-static WAY: [Row; 6] = [
+static WAY: [GameRow; 6] = [
     (Player::Even, 1, &[1]),
     (Player::Odd, 1, &[2]),
     (Player::Even, 1, &[0, 3]),
@@ -51,7 +51,7 @@ static WAY: [Row; 6] = [
 // the second, but not back. Even wins all: she leaves the rings where she may, at 0 and at 8, and then there is only the way to
 // the loop. Yet she asks for less by staying until what the rings ask for has climbed past six threes: for each of them through
 // the counts of sixteen ones.
-static TWO_RINGS: [Row; 23] = [
+static TWO_RINGS: [GameRow; 23] = [
     (Player::Even, 1, &[1, 16]),
     (Player::Odd, 1, &[2]),
     (Player::Even, 1, &[3]),
@@ -107,7 +107,7 @@ fn lifted_named<
 // The workers' table is that of one thread.
 fn same_table<R: Abort + AllocGlobal + Threads + Wait + Clone + Copy + Drop + Send + Sync>(
     rt: &R,
-    rows: &[Row],
+    rows: &[GameRow],
     shards: u32,
     workers: usize,
 ) -> bool
@@ -266,14 +266,14 @@ struct NotedSeat<S> {
 /// A board round another. It passes all on but the last calls, in which a board may settle itself: those it only notes. So what
 /// it is finished into has what the workers did, and no more.
 #[derive(Drop)]
-struct Noted<'a, B: Board> {
+struct NotingBoard<'a, B: Board> {
     inner: B,
     game: &'a Game,
     notes: &'a Notes,
     ghost same: { game.now ≡ B.game inner },
 }
 
-impl<'a, B: Board + Drop> Board for Noted<'a, B> {
+impl<'a, B: Board + Drop> Board for NotingBoard<'a, B> {
     type Seat = NotedSeat<B::Seat>;
 
     ghost game = { λ b. B.game b.inner };
@@ -309,7 +309,7 @@ impl<'a, B: Board + Drop> Board for Noted<'a, B> {
     }
 
     fn finish(self, table: &mut PlainTable) {
-        let Noted { inner, game, notes } = self;
+        let NotingBoard { inner, game, notes } = self;
         notes.note_end();
         inner.finish(table);
         notes
@@ -329,7 +329,7 @@ fn ends_well_on<B: Board + Drop + Sync, R: Abort + AllocGlobal + Threads + Wait 
     requires workers { 0 < workers }
 {
     let notes = &new_notes(rt, game, workers);
-    let board = Noted { inner, game, notes };
+    let board = NotingBoard { inner, game, notes };
     let solved = solve(rt, rt.alloc(), game, board, workers, notes).expect(rt, "memory");
     notes.ended_well(game) && is_least(rt, game, &solved)
 }
@@ -362,10 +362,10 @@ pub(crate) fn end_well_over_shards<
     ends_well::<Brand, R>(rt, game, workers)
 }
 
-// The same of the game of these vertices.
+// Whether workers over shards under locks leave nothing to lift of the game of these vertices.
 fn all_end_well<R: Abort + AllocGlobal + Threads + Wait + Clone + Copy + Drop + Send + Sync>(
     rt: &R,
-    rows: &[Row],
+    rows: &[GameRow],
     workers: usize,
 ) -> bool
     requires { 0 < workers }
@@ -386,10 +386,10 @@ pub(crate) fn end_well_over_words<R: Abort + AllocGlobal + Threads + Wait + Sync
     ends_well_on(rt, game, board, workers)
 }
 
-// The same of the game of these vertices.
+// Whether workers over words leave nothing to lift of the game of these vertices.
 fn all_end_well_over_words<R: Abort + AllocGlobal + Threads + Wait + Sync>(
     rt: &R,
-    rows: &[Row],
+    rows: &[GameRow],
     workers: usize,
 ) -> bool
     requires { 0 < workers }
@@ -404,8 +404,8 @@ pub(crate) fn is_left(rt: &(impl Abort + AllocGlobal), game: &Game) -> bool {
     !is_settled(game, &first)
 }
 
-// The same of the game of these vertices.
-fn is_left_to_workers(rt: &(impl Abort + AllocGlobal), rows: &[Row]) -> bool {
+// Whether the table that workers begin with leaves something to lift of the game of these vertices.
+fn is_left_to_workers(rt: &(impl Abort + AllocGlobal), rows: &[GameRow]) -> bool {
     let game = shared_game(rt, rows);
     is_left(rt, &game)
 }
@@ -445,7 +445,7 @@ fn workers_leave_nothing_to_lift(rt: HostRuntime) {
     leave_nothing(&rt, 8);
 }
 
-// The same over words.
+// So many workers over words leave nothing to lift of any of the games.
 fn leave_nothing_over_words<R: Abort + AllocGlobal + Threads + Wait + Sync>(rt: &R, workers: usize)
     requires { 0 < workers }
 {

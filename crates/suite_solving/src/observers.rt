@@ -1,9 +1,9 @@
 // What observers are told. The numbers of vertices are counted by hand; turns are told of at each 4,096th of a worker, and each vertex has one at least.
 
 use crate::common::{holds, holds_of};
+use game::gauge::Gauge;
 use game::graph::Game;
-use gauge::Gauge;
-use measures::observer::{Observer, Stage};
+use game::observer::{Observer, Stage};
 use samples::games::shared_arena_of;
 use samples::texts::ring;
 use std::alloc::Global;
@@ -16,15 +16,15 @@ use workers::team::{BoardKind, Team, solve_by};
 
 /// Keeps how often lifting was told, and the last numbers.
 #[derive(Drop)]
-struct Tally {
+struct LiftingCounts {
     vertices: AtomicU64,
     tellings: AtomicU64,
     lifts: AtomicU64,
 }
 
-impl Tally {
-    fn new() -> Tally {
-        Tally {
+impl LiftingCounts {
+    fn new() -> LiftingCounts {
+        LiftingCounts {
             vertices: AtomicU64::new(0),
             tellings: AtomicU64::new(0),
             lifts: AtomicU64::new(0),
@@ -32,7 +32,7 @@ impl Tally {
     }
 }
 
-impl Observer for Tally {
+impl Observer for LiftingCounts {
     fn sees(&self, stage: Stage) {
         match stage {
             Stage::Lifting { vertices, lifts } => {
@@ -55,7 +55,7 @@ fn game_of_the_ring(rt: &(impl Abort + AllocGlobal + Threads + Sync)) -> Arc<Gam
     shared_arena_of(rt, system.as_str(), "nu X. mu Y. (<a>X || <b>Y)").expect(rt, "a game")
 }
 
-impl Tally {
+impl LiftingCounts {
     /// Lifting was told of in a game with so many vertices.
     fn has_vertices(&self, rt: &impl Abort, wanted: u64) {
         holds!(rt; self.vertices.load(Ordering::SeqCst) == wanted);
@@ -80,7 +80,7 @@ fn tells_of_workers<R: Abort + AllocGlobal + Threads + Wait + Clone + Copy + Dro
     game: &Arc<Game, Global>,
     board: BoardKind,
 ) {
-    let tally = Tally::new();
+    let tally = LiftingCounts::new();
     let team = Team {
         workers: 2,
         shards: 16,

@@ -10,12 +10,12 @@ use measures::measure::Measure;
 use measures::progs::{is_measure, lift, prog};
 use measures::settle::{even_wins, is_settled, settle};
 use measures::table::{PlainTable, Settled};
-use samples::games::Row;
+use samples::games::GameRow;
 use std::process::Abort;
 
 // The game of `mu Z. nu Y. mu X. (<a>Z || <b>Y)` on the system whose first state leads by a to the second, which leads by b
 // to itself. All vertices are Even's.
-static NESTED: [Row; 18] = [
+static NESTED: [GameRow; 18] = [
     (Player::Even, 0, &[0]),
     (Player::Even, 1, &[1]),
     (Player::Even, 3, &[3]),
@@ -159,7 +159,7 @@ fn asks_for_the_least(rt: HostRuntime) {
 }
 
 // Even wins either both or none of two vertices between which the play goes round.
-fn wins(rt: &(impl Abort + AllocGlobal), rows: &[Row], is_won: bool) {
+fn wins(rt: &(impl Abort + AllocGlobal), rows: &[GameRow], is_won: bool) {
     let game = game_from(rt, rows);
     let settled = least(rt, &game);
     holds!(rt; game.vertices() == 2);
@@ -168,9 +168,9 @@ fn wins(rt: &(impl Abort + AllocGlobal), rows: &[Row], is_won: bool) {
 }
 
 // Rounds whose greatest priority is even and odd.
-static EVEN_ROUND: [Row; 2] = [(Player::Even, 0, &[1]), (Player::Odd, 2, &[0])];
+static EVEN_ROUND: [GameRow; 2] = [(Player::Even, 0, &[1]), (Player::Odd, 2, &[0])];
 
-static ODD_ROUND: [Row; 2] = [(Player::Even, 0, &[1]), (Player::Odd, 1, &[0])];
+static ODD_ROUND: [GameRow; 2] = [(Player::Even, 0, &[1]), (Player::Odd, 1, &[0])];
 
 #[test]
 fn tells_who_wins(rt: HostRuntime) {

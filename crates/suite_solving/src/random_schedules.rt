@@ -11,7 +11,7 @@ use liftcore::machine::Core;
 use measures::measure::Measure;
 use measures::table::Settled;
 use samples::dice::Dice;
-use samples::games::Row;
+use samples::games::GameRow;
 use std::alloc::{AllocError, Global};
 use std::process::Abort;
 
@@ -22,16 +22,16 @@ const EVENTS: u64 = 5_000;
 
 /// What outcomes tell of a run: which vertices are pending, which vertex each worker holds, and how many it owes.
 #[derive(Drop)]
-struct Told {
+struct RunOutcomes {
     pending: Vec<bool>,
     held: Vec<Option<u32>>,
     owed: Vec<usize>,
 }
 
-impl Told {
+impl RunOutcomes {
     /// Each vertex is pending, and each worker idle.
-    fn new(alloc: Global, vertices: u32) -> Result<Told, AllocError> {
-        Ok(Told {
+    fn new(alloc: Global, vertices: u32) -> Result<RunOutcomes, AllocError> {
+        Ok(RunOutcomes {
             pending: vec![in alloc; true; vertices as usize]?,
             held: vec![in alloc; None; WORKERS]?,
             owed: vec![in alloc; 0; WORKERS]?,
@@ -125,7 +125,7 @@ fn count_before(game: &Game, successor: u32) -> usize {
 }
 
 /// One event of the run, and what its outcome tells.
-fn step(game: &Game, core: &mut Core<'_>, told: &mut Told, event: Event) {
+fn step(game: &Game, core: &mut Core<'_>, told: &mut RunOutcomes, event: Event) {
     let raised = match event {
         Event::Raise { worker } => told.holds(worker).unwrap_or(0),
         _ => 0,
@@ -152,7 +152,7 @@ fn roll_event(dice: &mut Dice, vertices: u32) -> Event
     }
 }
 
-fn agree(core: &Core<'_>, told: &Told) -> bool {
+fn agree(core: &Core<'_>, told: &RunOutcomes) -> bool {
     for v in 0..core.vertices() {
         if core.is_pending(v) != told.is_pending(v) {
             return false;
@@ -179,7 +179,7 @@ fn follow_at_random(
     dice: &mut Dice,
     game: &Game,
     core: &mut Core<'_>,
-    told: &mut Told,
+    told: &mut RunOutcomes,
 ) {
     let vertices = game.vertices();
     holds!(rt; vertices > 0);
@@ -197,12 +197,17 @@ fn is_settled_at_the_least(rt: &(impl Abort + AllocGlobal), game: &Game, core: &
 }
 
 /// Nothing was told yet.
-fn untold(rt: &(impl Abort + AllocGlobal), game: &Game) -> Told {
-    Told::new(rt.alloc(), game.vertices()).expect(rt, "memory")
+fn untold(rt: &(impl Abort + AllocGlobal), game: &Game) -> RunOutcomes {
+    RunOutcomes::new(rt.alloc(), game.vertices()).expect(rt, "memory")
 }
 
 /// Replays events at random by a core that has done nothing yet.
-fn replay_noted(rt: &(impl Abort + AllocGlobal), dice: &mut Dice, game: &Game, told: &mut Told) {
+fn replay_noted(
+    rt: &(impl Abort + AllocGlobal),
+    dice: &mut Dice,
+    game: &Game,
+    told: &mut RunOutcomes,
+) {
     let mut core = new_core(rt, game, WORKERS);
     follow_at_random(rt, dice, game, &mut core, told);
     is_settled_at_the_least(rt, game, &core);
@@ -220,7 +225,7 @@ fn replay_often(rt: &(impl Abort + AllocGlobal), dice: &mut Dice, game: &Game) {
     }
 }
 
-fn replay_rows(rt: &(impl Abort + AllocGlobal), dice: &mut Dice, rows: &[Row]) {
+fn replay_rows(rt: &(impl Abort + AllocGlobal), dice: &mut Dice, rows: &[GameRow]) {
     let game = game_from(rt, rows);
     replay_often(rt, dice, &game);
 }

@@ -4,7 +4,7 @@
 ghost use Rattle.std.specs.Prelude.{◌≡◌, ◌<◌};
 ghost use Rattle.std.specs.Arc.{arc_value};
 
-use crate::climbing_workers::Turns;
+use crate::climbing_workers::TurnsByWorker;
 use crate::common::{agree, board_of_shards, board_of_words, holds, least};
 use game::graph::Game;
 use game::name::GameName;
@@ -36,14 +36,14 @@ fn is_solved_or_unbegun<B: Board + Drop + Sync, R: Threads + Wait + Sync>(
     requires workers { 0 < workers }
     requires wanted { wanted.now.game ≡ arc_value game.now }
 {
-    let turns = Turns::new();
+    let turns = TurnsByWorker::new();
     match solve(rt, alloc, game, board, workers, &turns) {
         Ok(settled) => agree(game, wanted, &settled),
         Err(SolveError::Memory) => turns.all() == 0,
     }
 }
 
-/// The same over words.
+/// Whether workers over words come to this table, or memory was refused and none of them had a turn.
 fn is_solved_over_words<R: Abort + AllocGlobal + Threads + Wait + Sync>(
     rt: &R,
     game: &Arc<Game, Global>,
@@ -57,7 +57,7 @@ fn is_solved_over_words<R: Abort + AllocGlobal + Threads + Wait + Sync>(
     is_solved_or_unbegun(rt, rt.alloc(), game, board, workers, wanted)
 }
 
-/// The same over shards under locks.
+/// Whether workers over shards under locks come to this table, or memory was refused and none of them had a turn.
 fn is_solved_over_shards<
     K: GameName + Send + Sync,
     R: Abort + AllocGlobal + Threads + Wait + Clone + Copy + Drop + Send + Sync,

@@ -6,17 +6,17 @@ use crate::common::{game_from, holds};
 use game::graph::Game;
 use game::player::Player;
 use liftcore::error::{CoreError, ReadError, ScheduleError, ScheduleFault};
-use liftcore::event::{Event, Outcome, Tally};
+use liftcore::event::{Event, EventCounts, Outcome};
 use liftcore::machine::{Core, run};
 use liftcore::schedule::{read_schedule, read_schedule_from};
 use liftcore::writer::write_replay;
-use samples::games::Row;
-use samples::readers::{Halting, Slow};
+use samples::games::GameRow;
+use samples::readers::{Halting, SlowReader};
 use std::process::Abort;
 use text::ReadFault;
 
 // The game of `<a>true` on two states, of which the first leads to the second by a, and the second to the first by b.
-pub(crate) static STEP_ROWS: [Row; 6] = [
+pub(crate) static STEP_ROWS: [GameRow; 6] = [
     (Player::Even, 0, &[0]),
     (Player::Even, 1, &[1]),
     (Player::Even, 0, &[5]),
@@ -25,8 +25,8 @@ pub(crate) static STEP_ROWS: [Row; 6] = [
     (Player::Even, 0, &[0]),
 ];
 
-// The same of `<a><a>true`.
-pub(crate) static TWO_STEPS: [Row; 8] = [
+// The game of `<a><a>true` on these two states.
+pub(crate) static TWO_STEPS: [GameRow; 8] = [
     (Player::Even, 0, &[0]),
     (Player::Even, 1, &[1]),
     (Player::Even, 0, &[6]),
@@ -47,7 +47,7 @@ pub(crate) fn new_core<'a>(
 }
 
 // What a replay is written as.
-fn replay_text(rt: &(impl Abort + AllocGlobal), core: &Core<'_>, tally: Tally) -> Vec<u8>
+fn replay_text(rt: &(impl Abort + AllocGlobal), core: &Core<'_>, tally: EventCounts) -> Vec<u8>
     requires { tally.done + tally.skipped < 2 ^ 64 }
 {
     let mut text = Vec::new(rt.alloc());
@@ -155,7 +155,7 @@ fn is_read_alike_by(
     schedule: &str,
     step: usize,
 ) {
-    let reader = Slow {
+    let reader = SlowReader {
         left: schedule.as_bytes(),
         step,
         fails: false,
@@ -200,7 +200,7 @@ fn refused_schedules_are_read_in_pieces(rt: HostRuntime) {
 
 // A schedule whose reader fails behind it is refused so.
 fn is_unread(rt: &(impl Abort + AllocGlobal), schedule: &str, wanted: ReadError) {
-    let reader = Slow {
+    let reader = SlowReader {
         left: schedule.as_bytes(),
         step: 3,
         fails: true,

@@ -21,7 +21,7 @@ use measures::settle::{is_settled, settle};
 use measures::table::PlainTable;
 use pgsolver::{read_game, write_game};
 use samples::games::shared_arena_of;
-use samples::readers::Slow;
+use samples::readers::SlowReader;
 use samples::texts::{RING, repeated_text, ring, system_read, unseeded};
 use std::alloc::Global;
 use std::marker::Brand;
@@ -83,7 +83,7 @@ fn rises_or_stays<K: GameName>(
     }
 }
 
-// The same of a game with its settled table.
+// A shard of every second vertex of a game, which is raised to the settled table's top at one or left as it is.
 fn of_settled(rt: &(impl Abort + AllocGlobal), raises: bool) {
     let game = game_from(rt, &TWO_STEPS);
     let source = settled(rt, &game);
@@ -208,7 +208,7 @@ fn blank_text(rt: &(impl Abort + AllocGlobal), blanks: usize) -> String {
 }
 
 fn is_read(rt: &(impl Abort + AllocGlobal), text: &str, step: usize) {
-    let reader = Slow {
+    let reader = SlowReader {
         left: text.as_bytes(),
         step,
         fails: false,

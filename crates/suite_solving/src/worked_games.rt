@@ -6,11 +6,11 @@ ghost use Rattle.std.specs.Arc.{arc_value};
 
 use crate::common::{board_of_shards, board_of_words, holds};
 use crate::many_workers::{end_well_over_shards, end_well_over_words, is_left};
-use fixtures::meeting::Meeting;
-use fixtures::texts::STAY;
 use game::graph::Game;
 use game::name::GameName;
 use samples::games::shared_arena_of;
+use samples::meeting::Meeting;
+use samples::ring_games::STAY;
 use samples::texts::{RING, ring};
 use std::alloc::Global;
 use std::marker::Brand;

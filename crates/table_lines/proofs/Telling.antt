@@ -14,10 +14,10 @@ use Rattle.requests.specs.Check.{Way, BySets, ByGame, IsBeyond}
 use Rattle.requests.specs.Known.{AreKnown}
 use Rattle.requests.specs.Strict.{IsLookRefusal}
 use Rattle.requests.specs.Texts.{IsFormulaOf, IsReadRefusal, IsReadFault}
-use Rattle.reports.specs.Status.{error_status}
+use Rattle.requests.specs.Status.{error_status}
 use Rattle.table_lines.specs.Table.{HasBegunToTell, HasTold, IsRefused, answer_line, is_as_expected, refusal_line}
 use Rattle.table_lines.specs.Found.{IsFound}
-use Rattle.table_lines.specs.declared.table.Found.{Found}
+use Rattle.table_lines.specs.declared.table.LineAnswer.{LineAnswer}
 
 -- A text within the limits is its front.
 pub whole_of : (front text : List ℕ) (f : Formula) → front ≡ take 1048577 text → IsFormulaOf text f → front ≡ text
@@ -111,7 +111,7 @@ same_status a b c d m e f h =
     h ∙ (ap (λ x. if is_as_expected x c then 0 else 1) e ∙ ap (λ x. if is_as_expected b x then 0 else 1) f)
 
 -- What was found was told.
-pub told : (strict : Bool) (way : Way) (l : System) (can_fail : Bool) (name text : List ℕ) (old new : Taken) (x : Found) (states status : ℕ) → IsFound strict way l text x
+pub told : (strict : Bool) (way : Way) (l : System) (can_fail : Bool) (name text : List ℕ) (old new : Taken) (x : LineAnswer) (states status : ℕ) → IsFound strict way l text x
     → states ≡ l.states → status ≡ (if is_as_expected x.expected x.answer then 0 else 1)
     → Adds old new (answer_line name x.expected x.answer x.marked states) → HasTold strict way l can_fail name text old new status
 told strict way l can_fail name text old new x states status is count came written = record {
@@ -128,7 +128,7 @@ told strict way l can_fail name text old new x states status is count came writt
   written = written;
 }
 
-pub begun : (strict : Bool) (way : Way) (l : System) (can_fail : Bool) (name text : List ℕ) (old new : Taken) (x : Found) (states : ℕ) → IsFound strict way l text x
+pub begun : (strict : Bool) (way : Way) (l : System) (can_fail : Bool) (name text : List ℕ) (old new : Taken) (x : LineAnswer) (states : ℕ) → IsFound strict way l text x
     → states ≡ l.states → WroteFront old new (answer_line name x.expected x.answer x.marked states) → HasBegunToTell strict way l can_fail name text old new
 begun strict way l can_fail name text old new x states is count written = record {
   line = answer_line name x.expected x.answer x.marked states;
@@ -163,7 +163,7 @@ begun_refusal strict way l can_fail name text old new e h cause written = record
 }
 
 -- What was found was told or begun, and the refusal.
-pub answered : (strict : Bool) (way : Way) (l : System) (can_fail : Bool) (name text : List ℕ) (old new : Taken) (x : Found) (states : ℕ) (r : Result ℕ WriteFault)
+pub answered : (strict : Bool) (way : Way) (l : System) (can_fail : Bool) (name text : List ℕ) (old new : Taken) (x : LineAnswer) (states : ℕ) (r : Result ℕ WriteFault)
     → IsFound strict way l text x → states ≡ l.states → Wrote old new r (answer_line name x.expected x.answer x.marked states)
     → IfOk r (λ status. status ≡ (if is_as_expected x.expected x.answer then 0 else 1))
     → MatchResult r (HasTold strict way l can_fail name text old new) (λ fault. HasBegunToTell strict way l can_fail name text old new)

@@ -6,11 +6,11 @@ use Rattle.calculus.specs.Tree.{Formula}
 use Rattle.requests.specs.Check.{Way, AreMarks}
 use Rattle.requests.specs.Known.{AreKnown}
 use Rattle.requests.specs.Texts.{IsFormulaOf}
-use Rattle.table_lines.specs.declared.table.Found.{Found}
+use Rattle.table_lines.specs.declared.table.LineAnswer.{LineAnswer}
 use Rattle.table_lines.specs.Table.{expectation}
 
 -- the answer and the number are those of the meaning of the formula that the text spells
-pub record IsFound (strict : Bool) (way : Way) (l : System) (text : List ℕ) (x : Found) : Type 0 where
+pub record IsFound (strict : Bool) (way : Way) (l : System) (text : List ℕ) (x : LineAnswer) : Type 0 where
   pub f : Formula
   pub marks : List Bool
   pub formula : IsFormulaOf text f

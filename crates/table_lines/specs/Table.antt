@@ -23,7 +23,7 @@ use Rattle.requests.specs.Check.{Way, BySets, ByGame, AreMarks, IsBeyond}
 use Rattle.requests.specs.Known.{AreKnown, IsAbsentAt}
 use Rattle.text.specs.Pieces.{line_end}
 use Rattle.requests.specs.Texts.{IsFormulaOf}
-use Rattle.reports.specs.Status.{error_status}
+use Rattle.requests.specs.Status.{error_status}
 
 -- ------------------------------------------------------------------ what a formula's text wants
 

@@ -7,7 +7,7 @@ ghost use Rattle.text.specs.Wrote.{Wrote};
 ghost use Rattle.requests.specs.declared.error.MuError.TheVariants as error;
 ghost use Rattle.requests.specs.declared.texts.TheConstants.{FORMULA_BYTES};
 ghost use Rattle.table_lines.specs.Found.{IsFound};
-ghost use Rattle.reports.specs.Status.{error_status as status_of_error};
+ghost use Rattle.requests.specs.Status.{error_status as status_of_error};
 ghost use Rattle.requests.specs.Check.{AreMarks, IsBeyond};
 ghost use Rattle.requests.specs.Known.{AreKnown};
 ghost use Rattle.requests.specs.Texts.{IsFormulaOf};
@@ -17,14 +17,14 @@ use crate::expectation::expectation;
 use calculus::closed::Closed;
 use formula::error::{FormulaError, FormulaFault};
 use game::error::BuildError;
+use game::observer::{Observer, Silent, Stage};
 use lts::system::Lts;
 use lts::{Piece, WriteFault, put, put_pieces};
-use measures::observer::{Observer, Silent, Stage};
 use normal::error::NormalError;
-use reports::report::marked;
-use reports::status::error_status;
 use requests::error::MuError;
+use requests::report::marked;
 use requests::request::{Options, Table};
+use requests::status::error_status;
 use requests::texts::{look_where, parse_front, read_front};
 use requests::watch::Watcher;
 use std::alloc::Global;
@@ -38,7 +38,7 @@ use verdicts::marks::{game_marks, plain_marks};
 
 /// What is found of a formula at the states of a system, and what its text says is expected.
 #[derive(Clone, Copy)]
-pub struct Found {
+pub struct LineAnswer {
     pub expected: Option<bool>,
     /// Whether the initial state satisfies the formula.
     pub answer: bool,
@@ -104,15 +104,13 @@ fn find<S: Source + Drop, U: Watcher + Sync, H: Threads + Wait + Clone + Copy + 
     request: &Table<'_>,
     formula: S,
     watcher: &U,
-) -> Result<Found, MuError>
+) -> Result<LineAnswer, MuError>
     ensures finds { let strict = request.now.strict in let way = way_by request.now.options request.now.plain in let l = system.now.system in
         (text : List ℕ) → S.remaining formula ≡ Some text → MatchResult result (IsFound strict way l text) (IsRefused strict way l text) }
     ensures cause { IfErr result (HasCause S.can_fail error.Read) }
 {
-    match read_front(alloc, formula) {
-        Ok(front) => find_in(rt, alloc, system, request, &front, watcher),
-        Err(error) => Err(error),
-    }
+    let front = read_front(alloc, formula)?;
+    find_in(rt, alloc, system, request, &front, watcher)
 }
 
 /// What is found of the formula that a text spells, of which this is all, or the front that shows that it is too long.
@@ -123,15 +121,13 @@ fn find_in<U: Watcher + Sync, H: Threads + Wait + Clone + Copy + Drop + Send + S
     request: &Table<'_>,
     front: &[u8],
     watcher: &U,
-) -> Result<Found, MuError>
+) -> Result<LineAnswer, MuError>
     ensures finds { let strict = request.now.strict in let way = way_by request.now.options request.now.plain in let l = system.now.system in
         (text : List ℕ) → front.now ≡ take FORMULA_BYTES text → MatchResult result (IsFound strict way l text) (IsRefused strict way l text) }
     ensures cause { IfErr result (HasCause false error.Read) }
 {
-    match parse_front(alloc, front) {
-        Ok(formula) => find_known(rt, alloc, system, request, front, &formula, watcher),
-        Err(error) => Err(error),
-    }
+    let formula = parse_front(alloc, front)?;
+    find_known(rt, alloc, system, request, front, &formula, watcher)
 }
 
 /// What is found of a formula with this text, of which each word has to be on a transition where the table is strict.
@@ -143,16 +139,14 @@ fn find_known<U: Watcher + Sync, H: Threads + Wait + Clone + Copy + Drop + Send 
     text: &[u8],
     formula: &Closed,
     watcher: &U,
-) -> Result<Found, MuError>
+) -> Result<LineAnswer, MuError>
     ensures finds { let strict = request.now.strict in let way = way_by request.now.options request.now.plain in let l = system.now.system in
         IsFormulaOf text.now (closed_formula formula.now) → MatchResult result (IsFound strict way l text.now) (IsRefused strict way l text.now) }
     ensures cause { IfErr result (HasCause false error.Read) }
 {
     watcher.has_read(system, formula);
-    match look_where(alloc, system, text, request.strict) {
-        Ok(()) => find_marked(rt, alloc, system, request, text, formula, watcher),
-        Err(error) => Err(error),
-    }
+    look_where(alloc, system, text, request.strict)?;
+    find_marked(rt, alloc, system, request, text, formula, watcher)
 }
 
 /// What is found of it where its words are on transitions, or may be on none.
@@ -164,17 +158,15 @@ fn find_marked<U: Watcher + Sync, H: Threads + Wait + Clone + Copy + Drop + Send
     text: &[u8],
     formula: &Closed,
     watcher: &U,
-) -> Result<Found, MuError>
+) -> Result<LineAnswer, MuError>
     ensures finds { let strict = request.now.strict in let way = way_by request.now.options request.now.plain in let l = system.now.system in
         IsFormulaOf text.now (closed_formula formula.now) → AreKnown strict l text.now
         → MatchResult result (IsFound strict way l text.now) (IsRefused strict way l text.now) }
     ensures cause { IfErr result (HasCause false error.Read) }
 {
     let options = &request.options;
-    match marks_by(rt, alloc, system, formula, options, request.plain, watcher) {
-        Ok(marks) => Ok(found_of(system, &marks, expectation(text))),
-        Err(error) => Err(error),
-    }
+    let marks = marks_by(rt, alloc, system, formula, options, request.plain, watcher)?;
+    Ok(found_of(system, &marks, expectation(text)))
 }
 
 /// A mark for each state, true where it satisfies the formula: by sets of states where it is plain, else by the game, as the
@@ -205,13 +197,13 @@ fn marks_by<O: Observer + Sync, H: Threads + Wait + Clone + Copy + Drop + Send +
 }
 
 /// What is found where these states satisfy the formula.
-fn found_of(system: &Lts, marks: &[bool], expected: Option<bool>) -> Found
+fn found_of(system: &Lts, marks: &[bool], expected: Option<bool>) -> LineAnswer
     requires { length marks.now ≡ system.now.system.states }
     ensures expected { result.expected ≡ expected }
     ensures answer { result.answer ≡ slice_index_or marks.now system.now.system.initial false }
     ensures marked { result.marked ≡ count_by (λ mark. mark) marks.now }
 {
-    Found {
+    LineAnswer {
         expected,
         answer: marks[system.initial() as usize],
         marked: marked(marks),
@@ -221,7 +213,7 @@ fn found_of(system: &Lts, marks: &[bool], expected: Option<bool>) -> Found
 /// Writes the line of an answer, and answers its status.
 fn tell_answer<W: Sink>(
     name: &str,
-    found: &Found,
+    found: &LineAnswer,
     states: u32,
     out: &mut W,
 ) -> Result<u8, WriteFault>
@@ -229,10 +221,8 @@ fn tell_answer<W: Sink>(
         (answer_line name.now found.now.expected found.now.answer found.now.marked states) }
     ensures status { IfOk result (λ status. status ≡ (if is_as_expected found.now.expected found.now.answer then 0 else 1)) }
 {
-    match put_answer(name, found, states, out) {
-        Ok(()) => Ok(answer_status(found)),
-        Err(fault) => Err(fault),
-    }
+    put_answer(name, found, states, out)?;
+    Ok(answer_status(found))
 }
 
 /// Writes the line of a refusal, and answers its status.
@@ -240,20 +230,18 @@ fn tell_refusal<W: Sink>(name: &str, error: &MuError, out: &mut W) -> Result<u8,
     ensures wrote { Wrote (W.taken out.old) (W.taken out.new) result (refusal_line name.now error.now) }
     ensures status { IfOk result (λ status. status ≡ status_of_error error.now) }
 {
-    match put_refusal(name, error, out) {
-        Ok(()) => Ok(error_status(error)),
-        Err(fault) => Err(fault),
-    }
+    put_refusal(name, error, out)?;
+    Ok(error_status(error))
 }
 
 /// 0 where the answer is as expected, which is yes where nothing is said, and 1 where it isn't.
-fn answer_status(found: &Found) -> u8
+fn answer_status(found: &LineAnswer) -> u8
     ensures { result ≡ (if is_as_expected found.now.expected found.now.answer then 0 else 1) }
 {
     if is_as_expected(found) { 0 } else { 1 }
 }
 
-fn is_as_expected(found: &Found) -> bool
+fn is_as_expected(found: &LineAnswer) -> bool
     ensures { result ≡ is_as_expected found.now.expected found.now.answer }
 {
     match found.expected {
@@ -265,7 +253,7 @@ fn is_as_expected(found: &Found) -> bool
 /// Writes the line of an answer.
 fn put_answer<W: Sink>(
     name: &str,
-    found: &Found,
+    found: &LineAnswer,
     states: u32,
     out: &mut W,
 ) -> Result<(), WriteFault>
@@ -289,7 +277,7 @@ fn put_answer<W: Sink>(
 }
 
 /// What is said of an answer where one is expected.
-fn remark(found: &Found) -> &'static [u8]
+fn remark(found: &LineAnswer) -> &'static [u8]
     ensures { result.now ≡ remark found.now.expected found.now.answer }
 {
     match found.expected {

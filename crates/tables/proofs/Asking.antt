@@ -1,17 +1,17 @@
 -- What a vertex asks for, its successors read one after another.
-use Rattle.progress.proofs.Common.{◌≡◌, ℕ, suc, ◌<◌, ◌≤◌, ◌⊎◌, max, List, [], ◌∷◌, ◌++◌, length, take, take-suc, sym, subst, ap, refl, ◌∙◌, inl, inr, arith}
-use Rattle.progress.proofs.Common.{leb_tells, Some, slice_index, AllZip, Contains-append_left, Contains-append_right, Player, Even, Odd, Game, Vertex, vertex}
-use Rattle.progress.proofs.Common.{height, Measure, IsAtMost, IsProg, IsBestFor, option_map}
+use Rattle.measures.proofs.Common.{◌≡◌, ℕ, suc, ◌<◌, ◌≤◌, ◌⊎◌, max, List, [], ◌∷◌, ◌++◌, length, take, take-suc, sym, subst, ap, refl, ◌∙◌, inl, inr, arith}
+use Rattle.measures.proofs.Common.{leb_tells, Some, slice_index, AllZip, Contains-append_left, Contains-append_right, Player, Even, Odd, Game, Vertex, vertex}
+use Rattle.measures.proofs.Common.{height, Measure, IsAtMost, IsProg, IsBestFor, option_map}
 use Rattle.std.proofs.Common.{min, append_assoc, length-append}
 use Rattle.std.proofs.lemmas.List.{append-nil, length-take-le, take_all}
 use Rattle.std.proofs.lemmas.List.Elements.{AllZip-push}
 use Rattle.game.proofs.Rows.{all_more}
 use Rattle.game.specs.Predecessors.{successors_at}
-use Rattle.progress.specs.Lifting.{better_of, of_rank, worst_of}
-use Rattle.progress.proofs.Bests.{best_single, vertex_here, vertex_tells}
-use Rattle.progress.proofs.Lists.{all_weaker, contains_first}
-use Rattle.progress.proofs.Measures.{at_most_itself, at_most_trans}
-use Rattle.progress.proofs.Numbers.{of_rank_up}
+use Rattle.measures.specs.Lifting.{better_of, of_rank, worst_of}
+use Rattle.measures.proofs.Bests.{best_single, vertex_here, vertex_tells}
+use Rattle.measures.proofs.Lists.{all_weaker, contains_first}
+use Rattle.measures.proofs.Measures.{at_most_itself, at_most_trans}
+use Rattle.measures.proofs.Numbers.{of_rank_up}
 use Rattle.tables.proofs.Reading.{reads_next}
 use Rattle.tables.specs.Turns.{Asks, By, reads}
 use Rattle.tables.specs.declared.access.Access.{Access}

@@ -9,16 +9,16 @@ use lib.ListN.{get_elem?}
 use Rattle.atomic_table.specs.Table.{State, Me, Allows, Enters, step, keeps, opening, stepped}
 use Rattle.atomic_table.proofs.Lists.{at_set, at_snoc}
 use Rattle.game.specs.Game.{Game, IsGame}
-use Rattle.progress.specs.Lifting.{height, of_rank}
-use Rattle.progress.specs.Measure.{IsAtMost, Measure, Top}
-use Rattle.progress.specs.Progress.{LiesUnder, value_at}
-use Rattle.progress.specs.Progress.{opening as first_table}
-use Rattle.progress.specs.Tables.{IsPlain, LiesBelow}
-use Rattle.progress.proofs.Measures.{at_most_itself, at_most_top, at_most_trans}
-use Rattle.progress.proofs.Numbers.{of_rank_max, of_rank_up}
-use Rattle.progress.proofs.Opening.{opening_table}
-use Rattle.progress.proofs.Rising.{set_under}
-use Rattle.progress.proofs.Plain.{opening_below, set_plain, value_set_other, value_set_same}
+use Rattle.measures.specs.Lifting.{height, of_rank}
+use Rattle.measures.specs.Measure.{IsAtMost, Measure, Top}
+use Rattle.measures.specs.Progress.{LiesUnder, value_at}
+use Rattle.measures.specs.Progress.{opening as first_table}
+use Rattle.measures.specs.Tables.{IsPlain, LiesBelow}
+use Rattle.measures.proofs.Measures.{at_most_itself, at_most_top, at_most_trans}
+use Rattle.measures.proofs.Numbers.{of_rank_max, of_rank_up}
+use Rattle.measures.proofs.Opening.{opening_table}
+use Rattle.measures.proofs.Rising.{set_under}
+use Rattle.measures.proofs.Plain.{opening_below, set_plain, value_set_other, value_set_same}
 use Rattle.tables.specs.declared.access.Access.{Access}
 use Rattle.tables.specs.declared.access.Access.TheVariants.{Raise, Read}
 use Rattle.tables.specs.declared.packed.View.{View}

@@ -1,12 +1,12 @@
 -- Shards, filled place by place and raised.
-use Rattle.progress.proofs.Common.{◌≡◌, ℕ, ◌+◌, ◌*◌, ◌/◌, ◌%◌, ◌<◌, ◌≤◌, true, false, length, replicate, sym, ap, subst, ◌∙◌, inl, inr, arith}
-use Rattle.progress.proofs.Common.{lt_of_lt_of_le, slice_set, eqb_tells, length-set, length-replicate, get_or-replicate, Game, IsGame, Measure, Top, Counts}
-use Rattle.progress.proofs.Common.{opening, value_at, zeros, bounds, components, IsOpening, LiesBelow, Rows}
+use Rattle.measures.proofs.Common.{◌≡◌, ℕ, ◌+◌, ◌*◌, ◌/◌, ◌%◌, ◌<◌, ◌≤◌, true, false, length, replicate, sym, ap, subst, ◌∙◌, inl, inr, arith}
+use Rattle.measures.proofs.Common.{lt_of_lt_of_le, slice_set, eqb_tells, length-set, length-replicate, get_or-replicate, Game, IsGame, Measure, Top, Counts}
+use Rattle.measures.proofs.Common.{opening, value_at, zeros, bounds, components, IsOpening, LiesBelow, Rows}
 use Rattle.std.specs.Int.{div_ceil}
 use Rattle.std.proofs.lemmas.Grind.{div_ceil_times}
 use Rattle.std.proofs.lemmas.Nat.{div-add-mod', div-mul-add}
 use Rattle.std.proofs.Math.Nat.{div-lt_iff_lt-mul}
-use Rattle.progress.proofs.Plain.{bounds_long, opening_below, opening_is, value_set_other, value_set_same, zeros_are}
+use Rattle.measures.proofs.Plain.{bounds_long, opening_below, opening_is, value_set_other, value_set_same, zeros_are}
 use Rattle.tables.specs.Part.{IsStoredPart}
 
 -- a vertex of a shard is told by its place

@@ -5,9 +5,9 @@ use Rattle.std.proofs.Math.Seq.{get_or-append_seam}
 use Rattle.std.proofs.lemmas.List.{map-id}
 use Rattle.std.proofs.lemmas.List.FromFn.{map-range_with_len_more, length-range_with_len}
 use Rattle.std.specs.List.{range_with_len}
-use Rattle.progress.specs.Measure.{IsAtMost, Measure, Top}
-use Rattle.progress.specs.Progress.{LiesUnder, value_at}
-use Rattle.progress.proofs.Measures.{at_most_trans}
+use Rattle.measures.specs.Measure.{IsAtMost, Measure, Top}
+use Rattle.measures.specs.Progress.{LiesUnder, value_at}
+use Rattle.measures.proofs.Measures.{at_most_trans}
 use Rattle.tables.specs.Turns.{reads}
 use Rattle.tables.specs.declared.access.Access.{Access}
 use Rattle.tables.specs.declared.access.Access.TheVariants.{Read}

@@ -1,18 +1,18 @@
 -- What is asked for at a vertex, by ranks and weights: the counts that are kept are a rank's quotient by a weight.
-use Rattle.progress.proofs.Common.{◌≡◌, ℕ, zero, suc, ◌+◌, ◌-◌, ◌*◌, ◌/◌, ◌%◌, ◌<◌, ◌≤◌, true, false, List, [], ◌∷◌, length, take, drop, refl, sym, ap, subst}
-use Rattle.progress.proofs.Common.{◌∙◌, inl, inr, arith, true≢false, mul-le-mul_right, leb_tells, eqb_tells, if◌then◌else◌, Game, count, greatest, Measure}
-use Rattle.progress.proofs.Common.{Top, Counts, components, IsMeasure, IsAtMost, IsProg, Reaches, kept, is_odd, odd_down, Some, option_map, slice_index}
-use Rattle.progress.proofs.Common.{vertex, priority_at, IsProgAt, code, decode, height, lists_up_to}
+use Rattle.measures.proofs.Common.{◌≡◌, ℕ, zero, suc, ◌+◌, ◌-◌, ◌*◌, ◌/◌, ◌%◌, ◌<◌, ◌≤◌, true, false, List, [], ◌∷◌, length, take, drop, refl, sym, ap, subst}
+use Rattle.measures.proofs.Common.{◌∙◌, inl, inr, arith, true≢false, mul-le-mul_right, leb_tells, eqb_tells, if◌then◌else◌, Game, count, greatest, Measure}
+use Rattle.measures.proofs.Common.{Top, Counts, components, IsMeasure, IsAtMost, IsProg, Reaches, kept, is_odd, odd_down, Some, option_map, slice_index}
+use Rattle.measures.proofs.Common.{vertex, priority_at, IsProgAt, code, decode, height, lists_up_to}
 use Rattle.std.specs.Prelude.{min}
 use Rattle.std.proofs.lemmas.Nat.{div-add-mod', div-mul-add}
-use Rattle.progress.specs.Lifting.{of_rank}
-use Rattle.progress.proofs.Bests.{vertex_here}
-use Rattle.progress.proofs.Components.{below_greatest, kept_is, odd_down_long}
-use Rattle.progress.proofs.Cycles.{odd_or_even, priority}
-use Rattle.progress.proofs.Measures.{Bounded, NoneOver, at_most_or_below, none_prog, over_reaches, reaches_over, top_prog}
-use Rattle.progress.proofs.Numbers.{of_rank_counts, of_rank_top}
-use Rattle.progress.proofs.Order.{Over, over_either}
-use Rattle.progress.proofs.Ranks.{code_bounded, code_decode, decode_bounded, rank_rises, size_some}
+use Rattle.measures.specs.Lifting.{of_rank}
+use Rattle.measures.proofs.Bests.{vertex_here}
+use Rattle.measures.proofs.Components.{below_greatest, kept_is, odd_down_long}
+use Rattle.measures.proofs.Cycles.{odd_or_even, priority}
+use Rattle.measures.proofs.Measures.{Bounded, NoneOver, at_most_or_below, none_prog, over_reaches, reaches_over, top_prog}
+use Rattle.measures.proofs.Numbers.{of_rank_counts, of_rank_top}
+use Rattle.measures.proofs.Order.{Over, over_either}
+use Rattle.measures.proofs.Ranks.{code_bounded, code_decode, decode_bounded, rank_rises, size_some}
 use Rattle.tables.specs.Weights.{AreWeights, weight}
 
 -- ------------------------------------------------------------------ the first counts as a number

@@ -4,10 +4,10 @@ use mathlib.Core.Option.{some}
 use lib.ListN.{get_elem?}
 use Rattle.atomic_table.specs.Table.{Me, State, Step}
 use Rattle.game.specs.Game.{Game}
-use Rattle.progress.specs.Lifting.{height, of_rank}
-use Rattle.progress.specs.Measure.{IsAtMost, Measure}
-use Rattle.progress.specs.Progress.{opening, value_at}
-use Rattle.progress.specs.Tables.{LiesBelow}
+use Rattle.measures.specs.Lifting.{height, of_rank}
+use Rattle.measures.specs.Measure.{IsAtMost, Measure}
+use Rattle.measures.specs.Progress.{opening, value_at}
+use Rattle.measures.specs.Tables.{LiesBelow}
 use Rattle.tables.specs.declared.access.Access.{Access}
 use Rattle.tables.specs.declared.access.Access.TheVariants.{Raise, Read}
 use Rattle.tables.specs.declared.packed.View.{View}

@@ -1,10 +1,10 @@
 -- A shard of a game's vertices.
 use Rattle.std.specs.Prelude.{◌≡◌, ℕ, ◌<◌, ◌/◌, ◌%◌, List, length}
 use Rattle.game.specs.Game.{Game, IsGame}
-use Rattle.progress.specs.Measure.{Measure}
-use Rattle.progress.specs.Progress.{value_at}
-use Rattle.progress.specs.Progs.{bounds}
-use Rattle.progress.specs.Tables.{LiesBelow}
+use Rattle.measures.specs.Measure.{Measure}
+use Rattle.measures.specs.Progress.{value_at}
+use Rattle.measures.specs.Progs.{bounds}
+use Rattle.measures.specs.Tables.{LiesBelow}
 
 -- Of so many shards the one with this index. Its vertices follow each other in steps of that many.
 pub record ShardPart : Type 0 where

@@ -2,8 +2,8 @@
 use Rattle.std.specs.Prelude.{◌≡◌, ◌++◌, List}
 use Rattle.std.specs.Arc.{arc_value}
 use Rattle.game.specs.Game.{Game}
-use Rattle.progress.specs.Measure.{Measure}
-use Rattle.progress.specs.Tables.{IsPlain}
+use Rattle.measures.specs.Measure.{Measure}
+use Rattle.measures.specs.Tables.{IsPlain}
 use Rattle.tables.specs.declared.access.Access.{Access}
 use Rattle.tables.specs.declared.packed.PackedBoard.{PackedBoard}
 use Rattle.tables.specs.declared.packed.PackedSeat.{PackedSeat}

@@ -3,9 +3,9 @@ use Rattle.std.specs.Prelude.{◌≡◌, ◌↔◌, ◌<◌, ◌++◌, ℕ, Bool
 use Rattle.std.specs.List.{range_with_len}
 use Rattle.game.specs.Game.{Game, vertex}
 use Rattle.game.specs.Predecessors.{successors_at}
-use Rattle.progress.specs.Measure.{IsAtMost, IsBelow, Measure}
-use Rattle.progress.specs.Progress.{value_at}
-use Rattle.progress.specs.Progs.{IsDemandOf}
+use Rattle.measures.specs.Measure.{IsAtMost, IsBelow, Measure}
+use Rattle.measures.specs.Progress.{value_at}
+use Rattle.measures.specs.Progs.{IsDemandOf}
 use Rattle.tables.specs.declared.access.Access.{Access}
 use Rattle.tables.specs.declared.access.Access.TheVariants.{Read, Raise}
 

@@ -1,8 +1,8 @@
 -- Weights of ranks: what a count of a component counts for.
 use Rattle.std.specs.Prelude.{◌≡◌, ℕ, ◌*◌, ◌<◌, ◌≤◌, List, length, slice_index}
 use Rattle.game.specs.Game.{Game, count, greatest}
-use Rattle.progress.specs.Lifting.{lists_up_to}
-use Rattle.progress.specs.Measure.{odd_down}
+use Rattle.measures.specs.Lifting.{lists_up_to}
+use Rattle.measures.specs.Measure.{odd_down}
 
 -- how many lists have a count for each odd priority below this even one
 abbrev pub weight : Game → ℕ → ℕ

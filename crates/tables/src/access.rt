@@ -1,6 +1,6 @@
 // What is done to a board.
 
-use progress::measure::Measure;
+use measures::measure::Measure;
 
 /// One access to a board, as clauses see it. No value of it is made.
 pub enum Access {

@@ -2,15 +2,15 @@
 
 ghost use Rattle.std.specs.Prelude.{◌≡◌, ◌<◌, ◌++◌, ◌∷◌, [], List, ◌⊎◌, IfErr, IfOk, length};
 ghost use Rattle.game.specs.Game.{Game};
-ghost use Rattle.progress.specs.Progress.{LiesUnder};
-ghost use Rattle.progress.specs.Tables.{LiesBelow};
+ghost use Rattle.measures.specs.Progress.{LiesUnder};
+ghost use Rattle.measures.specs.Tables.{LiesBelow};
 ghost use Rattle.tables.specs.Turns.{By, IsPoured, IsRaise};
 ghost use Rattle.tables.specs.declared.access.Access.{Access};
 ghost use Rattle.tables.specs.declared.access.Access.TheVariants as access;
 
 use crate::error::TableError;
-use progress::measure::Measure;
-use progress::table::PlainTable;
+use measures::measure::Measure;
+use measures::table::PlainTable;
 
 /// A measure for each vertex of one game, none above that of any progress table, read and raised by several workers at once.
 ///

@@ -24,8 +24,7 @@ impl From<AllocError> for TableError {
 
     ghost from_gives = { λ error result. result ≡ errors.Memory };
 
-    fn from(error: AllocError) -> Self {
-        let _ = error;
+    fn from(_: AllocError) -> Self {
         TableError::Memory
     }
 }

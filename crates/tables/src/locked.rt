@@ -9,8 +9,8 @@ use crate::error::TableError;
 use crate::shard::Shard;
 use game::graph::Game;
 use game::name::GameName;
-use progress::measure::Measure;
-use progress::table::{PlainTable, opening_value};
+use measures::measure::Measure;
+use measures::table::{PlainTable, opening_value};
 use std::alloc::{AllocError, Global};
 use std::sync::{Arc, Mutex, Wait};
 

@@ -3,11 +3,11 @@
 ghost use Rattle.std.specs.Prelude.{◌≡◌, ◌<◌, ◌≤◌, ◌↔◌, ◌⊎◌, ◌∷◌, ℕ, [], Err, IfErr, IfOk, IfSome, IsSome, IsTrue, length, slice_index, slice_set};
 ghost use Rattle.std.specs.Arc.{arc_value};
 ghost use Rattle.std.specs.Mem.Slots.{IsFull, slots_items, slots_len};
-ghost use Rattle.progress.specs.Lifting.{better_of, height, of_rank as measure_of_rank, sum_of, worst_of};
-ghost use Rattle.progress.specs.Measure.{IsAtMost, IsBelow};
-ghost use Rattle.progress.specs.Progress.{IsLeastTable, IsOverLift, LiesUnder, greater_of, opening as opening_of, value_at};
-ghost use Rattle.progress.specs.Tables.{LiesBelow};
-ghost use Rattle.progress.specs.declared.rank.TheConstants.{RANK_LIMIT};
+ghost use Rattle.measures.specs.Lifting.{better_of, height, of_rank as measure_of_rank, sum_of, worst_of};
+ghost use Rattle.measures.specs.Measure.{IsAtMost, IsBelow};
+ghost use Rattle.measures.specs.Progress.{IsLeastTable, IsOverLift, LiesUnder, greater_of, opening as opening_of, value_at};
+ghost use Rattle.measures.specs.Tables.{LiesBelow};
+ghost use Rattle.measures.specs.declared.rank.TheConstants.{RANK_LIMIT};
 ghost use Rattle.tables.specs.Packed.{IsOpeningRank, IsWord};
 ghost use Rattle.tables.specs.Turns.{Asks, By, IsPoured, IsRaise, IsTurn};
 ghost use Rattle.tables.specs.Weights.{AreWeights};
@@ -19,9 +19,9 @@ use arrayvec::ArrayVec;
 use atomic_table::{Closed, Play, Seat, Table, TableRule};
 use game::graph::Game;
 use game::player::Player;
-use progress::measure::Measure;
-use progress::rank::{of_rank, rank, top_rank};
-use progress::table::{PlainTable, opening, turns_odd};
+use measures::measure::Measure;
+use measures::rank::{of_rank, rank, top_rank};
+use measures::table::{PlainTable, opening, turns_odd};
 use std::alloc::{AllocError, Global};
 use std::collections::LinkedList;
 use std::marker::Model;
@@ -94,7 +94,7 @@ pub struct PackedSeat {
 }
 
 // The rank of the opening value of a vertex.
-#[tactic(auto, using(progress::proofs::Numbers::of_rank_zero))]
+#[tactic(auto, using(measures::proofs::Numbers::of_rank_zero))]
 fn opening_rank(game: &Game, top: u64, v: u32) -> u64
     requires top { top ≡ height game.now }
     requires vertex { v < length game.now.vertices }
@@ -151,6 +151,7 @@ impl PackedBoard {
         ensures ranks { (result ≡ Err errors.TooManyRanks) ↔ (RANK_LIMIT ≤ height (arc_value game)) }
         ensures refused { IfErr result (λ e. (e ≡ errors.TooManyRanks) ⊎ (e ≡ errors.Memory)) }
     {
+        // For the proof alone: clauses name it.
         let _ = seats;
         game.known();
         let Some(top) = top_rank(&game) else {
@@ -349,7 +350,7 @@ impl PackedBoard {
     }
 
     /// Raises a table to what is read of every vertex.
-    #[tactic(auto, using(progress::proofs::Rising::under_itself))]
+    #[tactic(auto, using(measures::proofs::Rising::under_itself))]
     pub(crate) fn read_into(&self, seat: &mut PackedSeat, table: &mut PlainTable)
         requires table { table.old.game ≡ board_game self.now }
         requires seat { IsSeatOf self.now seat.old }

@@ -1,7 +1,7 @@
 // The packed board as a board.
 
 ghost use Rattle.std.specs.Prelude.{◌≡◌, ◌<◌, ◌↔◌, ◌++◌, Err, IfErr, IfOk, length};
-ghost use Rattle.progress.specs.Progress.{IsLeastTable};
+ghost use Rattle.measures.specs.Progress.{IsLeastTable};
 ghost use Rattle.std.proofs.Common.{◌∙◌, ap, append_assoc, sym};
 ghost use Rattle.std.proofs.lemmas.List.{append-nil};
 ghost use Rattle.tables.specs.Seats.{Did, IsSeatOf, board_game, done, seen};
@@ -10,8 +10,8 @@ ghost use Rattle.tables.specs.declared.error.TableError.TheVariants as errors;
 use crate::board::Board;
 use crate::error::TableError;
 use crate::packed::{PackedBoard, PackedSeat};
-use progress::measure::Measure;
-use progress::table::PlainTable;
+use measures::measure::Measure;
+use measures::table::PlainTable;
 
 impl Board for PackedBoard {
     type Seat = PackedSeat;

@@ -1,19 +1,19 @@
 // Shards of a game's vertices.
 
 ghost use Rattle.std.specs.Prelude.{◌≡◌, ◌<◌, ◌↔◌, ◌/◌, ℕ, IfErr, IfOk, IsTrue, length, slice_set};
-ghost use Rattle.progress.specs.Measure.{IsBelow};
-ghost use Rattle.progress.specs.Progress.{greater_of, opening as opening_of, value_at};
-ghost use Rattle.progress.specs.Tables.{LiesBelow};
+ghost use Rattle.measures.specs.Measure.{IsBelow};
+ghost use Rattle.measures.specs.Progress.{greater_of, opening as opening_of, value_at};
+ghost use Rattle.measures.specs.Tables.{LiesBelow};
 ghost use Rattle.tables.specs.declared.error.TableError.TheVariants as errors;
 ghost use Rattle.tables.specs.Part.{Has, value_of_part};
 
 use crate::error::TableError;
 use game::graph::Game;
 use game::name::GameName;
-use progress::bounds::width;
-use progress::measure::Measure;
-use progress::rows::Rows;
-use progress::table::turns_odd;
+use measures::bounds::width;
+use measures::measure::Measure;
+use measures::rows::MeasureRows;
+use measures::table::turns_odd;
 use std::alloc::Global;
 use std::marker::{Model, PhantomData};
 
@@ -23,7 +23,7 @@ use std::marker::{Model, PhantomData};
 pub struct Shard<K: GameName> {
     index: u32,
     shards: u32,
-    rows: Rows,
+    rows: MeasureRows,
     of: PhantomData<K>,
 }
 
@@ -53,7 +53,7 @@ impl<K: GameName> Shard<K> {
         game.known();
         let vertices = game.vertices();
         let places = vertices.div_ceil(shards);
-        let mut rows = Rows::zeros(alloc, places as usize, width(game))?;
+        let mut rows = MeasureRows::zeros(alloc, places as usize, width(game))?;
         for place in 0..places {
             let v = u64::from(place) * u64::from(shards) + u64::from(index);
             if v < u64::from(vertices) && turns_odd(game, v as u32) {
@@ -88,7 +88,7 @@ impl<K: GameName> Shard<K> {
     }
 
     /// The measure of one of the shard's vertices, which stands at this place.
-    #[tactic(auto, using(progress::proofs::Plain::bounds_few))]
+    #[tactic(auto, using(measures::proofs::Plain::bounds_few))]
     pub(crate) fn read_at(&self, v: u32, place: u32) -> Measure
         requires vertex { v < length K.game.vertices }
         requires here { Has self.now v }
@@ -96,6 +96,7 @@ impl<K: GameName> Shard<K> {
         ensures value { result ≡ value_of_part self.now v }
         ensures below { LiesBelow K.game v result }
     {
+        // For the proof alone: clauses name it.
         let _ = v;
         self.rows.value(place as usize)
     }
@@ -121,6 +122,7 @@ impl<K: GameName> Shard<K> {
         ensures values { self.new.values ≡ slice_set self.old.values (v / self.old.shards) (greater_of (value_of_part self.old v) m.now) }
         ensures rose { IsTrue result ↔ IsBelow (value_of_part self.old v) m.now }
     {
+        // For the proof alone: clauses name it.
         let _ = v;
         let place = place as usize;
         if self.rows.compare_with(place, m).is_ge() {

@@ -1,9 +1,9 @@
 // Weights of ranks, found once for a board.
 
 ghost use Rattle.std.specs.Prelude.{◌≡◌, ◌<◌, ◌≤◌, ◌%◌, length};
-ghost use Rattle.progress.specs.Lifting.{height, of_rank as measure_of_rank};
-ghost use Rattle.progress.specs.Progs.{IsProgAt};
-ghost use Rattle.progress.specs.declared.rank.TheConstants.{RANK_LIMIT};
+ghost use Rattle.measures.specs.Lifting.{height, of_rank as measure_of_rank};
+ghost use Rattle.measures.specs.Progs.{IsProgAt};
+ghost use Rattle.measures.specs.declared.rank.TheConstants.{RANK_LIMIT};
 ghost use Rattle.tables.specs.Weights.{AreWeights};
 
 use arrayvec::ArrayVec;

@@ -20,8 +20,7 @@ pub enum ReadFault {
 impl From<AllocError> for ReadFault {
     ghost from_gives = { λ _ e. e ≡ faults.Memory };
 
-    fn from(error: AllocError) -> Self {
-        let _ = error;
+    fn from(_: AllocError) -> Self {
         ReadFault::Memory
     }
 }
@@ -32,15 +31,13 @@ impl From<AllocError> for ReadFault {
 pub struct Memory;
 
 impl From<AllocError> for Memory {
-    fn from(error: AllocError) -> Self {
-        let _ = error;
+    fn from(_: AllocError) -> Self {
         Memory
     }
 }
 
 impl<T: Drop> From<AllocFailed<T>> for Memory {
-    fn from(error: AllocFailed<T>) -> Self {
-        let _ = error;
+    fn from(_: AllocFailed<T>) -> Self {
         Memory
     }
 }

@@ -113,7 +113,7 @@ fn few_digits(line: &[u8]) -> Option<(u32, usize)>
     Some((value, line.len()))
 }
 
-// The same, however many they are.
+// The number of the digits in front, and how many they are, however many.
 fn all_digits(line: &[u8]) -> (u32, usize)
     ensures value { result.0 ≡ capped (spec.value_of (take result.1 line.now)) }
     ensures count { result.1 ≡ prefix_len spec.is_digit line.now }

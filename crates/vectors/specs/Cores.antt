@@ -7,14 +7,14 @@ use Rattle.game.specs.declared.player.Player.{Player}
 use Rattle.game.specs.declared.player.Player.TheVariants.{Even}
 use Rattle.calculus.specs.Tree.{Dia, True}
 use Rattle.calculus.specs.Tree as tree
-use Rattle.forms.specs.Nodes.{nodes}
+use Rattle.calculus.specs.Nodes.{nodes}
 use Rattle.game.specs.Game.{Game, vertex}
 use Rattle.game.specs.Arena.{arena}
-use Rattle.progress.specs.Measure.{Measure, Top, Counts, IsAtMost, IsMeasure, IsProg, Reaches}
-use Rattle.progress.specs.Progress.{IsLiftAt, IsProgress, greater_of, opening, value_at}
-use Rattle.progress.proofs.Bests.{best_single}
-use Rattle.progress.proofs.Measures.{at_most_itself, at_most_top, top_prog}
-use Rattle.progress.proofs.Monotone.{lift_one}
+use Rattle.measures.specs.Measure.{Measure, Top, Counts, IsAtMost, IsMeasure, IsProg, Reaches}
+use Rattle.measures.specs.Progress.{IsLiftAt, IsProgress, greater_of, opening, value_at}
+use Rattle.measures.proofs.Bests.{best_single}
+use Rattle.measures.proofs.Measures.{at_most_itself, at_most_top, top_prog}
+use Rattle.measures.proofs.Monotone.{lift_one}
 use Rattle.liftcore.specs.Core.{Core, Note, Worker, Idle, Holding, Owing, is_quiet, starting_core}
 use Rattle.game.specs.Predecessors.{predecessors}
 use Rattle.liftcore.specs.Step.{TakesVertex, ReadsVertex, LiftsHeld, Pushes, Skips, Step, Steps}

@@ -4,11 +4,11 @@ use Rattle.std.specs.List.{list_all, range_with_len}
 use Rattle.std.proofs.Common.{arith, inl, inr, subst, sym, ◌∙◌, true≢false}
 use Rattle.game.specs.declared.player.Player.TheVariants.{Even, Odd}
 use Rattle.game.specs.Game.{Vertex, vertex}
-use Rattle.progress.specs.Laws.{IsLeastSuccessor}
-use Rattle.progress.specs.Measure.{Counts, IsAtMost, IsMeasure, Measure, Top}
-use Rattle.progress.specs.Progress.{value_at}
-use Rattle.progress.proofs.Lists.{contains_first, contains_later}
-use Rattle.progress.proofs.Measures.{at_most_itself, at_most_trans, prog, prog_more, top_prog}
+use Rattle.measures.specs.Laws.{IsLeastSuccessor}
+use Rattle.measures.specs.Measure.{Counts, IsAtMost, IsMeasure, Measure, Top}
+use Rattle.measures.specs.Progress.{value_at}
+use Rattle.measures.proofs.Lists.{contains_first, contains_later}
+use Rattle.measures.proofs.Measures.{at_most_itself, at_most_trans, prog, prog_more, top_prog}
 use Rattle.evidence.specs.Best.{IsBestMove, IsEvenOf}
 use Rattle.evidence.specs.Evidence.{Entry, Evidence, counted, entry_at, has}
 use Rattle.evidence.specs.Verdict.{IsBoth, IsVerdict}

@@ -8,7 +8,7 @@ use Rattle.std.proofs.lemmas.Bool.Decides.{nat_tests}
 use Rattle.vectors.specs.Systems.{two_states}
 use Rattle.calculus.specs.Tree.{Step, Dia, Box, True, False, Anything}
 use Rattle.vectors.specs.Formulas.{name_a, often_a}
-use Rattle.forms.specs.Nodes.{nodes}
+use Rattle.calculus.specs.Nodes.{nodes}
 use Rattle.game.specs.declared.player.Player.{Player}
 use Rattle.game.specs.declared.player.Player.TheVariants.{Even, Odd}
 use Rattle.game.specs.Game.{Game, IsAscending, IsGame, IsVertex, Vertex, dual, vertex}

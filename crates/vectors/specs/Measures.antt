@@ -2,15 +2,15 @@
 use Rattle.std.specs.Prelude.{◌≡◌, ℕ, zero, suc, List, [], ◌∷◌, length, map, codes, refl, AllPairs, Contains}
 use Rattle.calculus.specs.Tree.{Formula, Step, Or, Dia, Var, Mu, Nu}
 use Rattle.vectors.specs.Formulas.{name_a, name_b}
-use Rattle.forms.specs.Nodes.{nodes}
+use Rattle.calculus.specs.Nodes.{nodes}
 use Rattle.systems.specs.System.{System}
 use Rattle.vectors.specs.Systems.{arrow}
 use Rattle.game.specs.Game.{Game, count}
 use Rattle.game.specs.Arena.{arena}
 use Rattle.std.proofs.Common.{arith, sym, subst, true≢false}
-use Rattle.progress.specs.Measure.{Measure, Top, Counts, components, measure_cmp, IsMeasure, IsAtMost, IsBelow, IsRank, Reaches, IsProg}
+use Rattle.measures.specs.Measure.{Measure, Top, Counts, components, measure_cmp, IsMeasure, IsAtMost, IsBelow, IsRank, Reaches, IsProg}
 use Rattle.std.specs.declared.cmp.Ordering.TheVariants.{Less, Equal, Greater}
-use Rattle.progress.proofs.Ranks.{rank_is}
+use Rattle.measures.proofs.Ranks.{rank_is}
 
 -- the system with a loop: des (0,2,2), (0,"a",1), (1,"b",1)
 abbrev pub with_loop : System

@@ -5,11 +5,11 @@ use Rattle.std.specs.Fmt.{digits}
 use Rattle.std.proofs.Common.{arith, lit<, lit≤}
 use Rattle.calculus.specs.Tree.{Anything, Regular, Step, Then, Either, Star, Plus, Formula, True, False, Var, Not, And, Or, Dia, Box, Mu, Nu}
 use Rattle.vectors.specs.Formulas.{often_a, plus_or_b, name_a, name_b}
-use Rattle.forms.specs.Tree.{normal_form, Shape, ConstantNode, JunctionNode, ModalityNode, FixpointNode, VariableNode, depth, size, chain, node_count}
-use Rattle.forms.specs.Tree.{modal_count, formula_from}
-use Rattle.forms.specs.Nodes.{nodes, Node, greatest_nested, greatest_node_priority}
-use Rattle.forms.specs.Rules.{nodes_with}
-use Rattle.forms.specs.declared.priorities.Priorities.TheVariants.{Dependent}
+use Rattle.calculus.specs.NormalTree.{normal_form, Shape, ConstantNode, JunctionNode, ModalityNode, FixpointNode, VariableNode, depth, size, chain, node_count}
+use Rattle.calculus.specs.NormalTree.{modal_count, formula_from}
+use Rattle.calculus.specs.Nodes.{nodes, Node, greatest_nested, greatest_node_priority}
+use Rattle.calculus.specs.Rules.{nodes_with}
+use Rattle.calculus.specs.declared.priorities.Priorities.TheVariants.{Dependent}
 use Rattle.text.specs.Pieces.{line_end}
 use Rattle.normal.specs.NormalText.{normal_text}
 use Rattle.normal.specs.Refused.{HasRefusal}

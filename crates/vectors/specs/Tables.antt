@@ -7,14 +7,14 @@ use Rattle.std.proofs.lemmas.Option.{slice_get_within}
 use Rattle.game.specs.declared.player.Player.{Player}
 use Rattle.game.specs.declared.player.Player.TheVariants.{Even, Odd}
 use Rattle.game.specs.Game.{Game, vertex}
-use Rattle.progress.specs.Lifting.{IsLifted, AreLifts}
-use Rattle.progress.specs.Measure.{Measure, Top, Counts, IsAtMost, IsMeasure, IsProg, Reaches}
-use Rattle.progress.specs.Progress.{IsLift, IsLiftAt, IsProgress, IsLeastTable, IsTable, IsUnder, greater_of, opening, value_at}
-use Rattle.progress.proofs.Bests.{best_single}
-use Rattle.progress.proofs.Lifting.{lifting_least}
-use Rattle.progress.proofs.Measures.{at_most_itself, at_most_top, at_most_trans, top_prog}
-use Rattle.progress.proofs.Monotone.{lift_one}
-use Rattle.progress.proofs.Plain.{value_set_other, value_set_same}
+use Rattle.measures.specs.Lifting.{IsLifted, AreLifts}
+use Rattle.measures.specs.Measure.{Measure, Top, Counts, IsAtMost, IsMeasure, IsProg, Reaches}
+use Rattle.measures.specs.Progress.{IsLift, IsLiftAt, IsProgress, IsLeastTable, IsTable, IsUnder, greater_of, opening, value_at}
+use Rattle.measures.proofs.Bests.{best_single}
+use Rattle.measures.proofs.Lifting.{lifting_least}
+use Rattle.measures.proofs.Measures.{at_most_itself, at_most_top, at_most_trans, top_prog}
+use Rattle.measures.proofs.Monotone.{lift_one}
+use Rattle.measures.proofs.Plain.{value_set_other, value_set_same}
 use Rattle.vectors.specs.Games.{vertex_at, often_a_game, is_game_often_a}
 
 abbrev number : ℕ → Measure

@@ -5,7 +5,7 @@ use Rattle.systems.specs.System.{System}
 use Rattle.calculus.specs.Tree.{Formula}
 use Rattle.requests.specs.declared.error.MuError.{MuError}
 use Rattle.requests.specs.declared.error.MuError.TheVariants as error
-use Rattle.forms.specs.declared.priorities.Priorities.{Priorities}
+use Rattle.calculus.specs.declared.priorities.Priorities.{Priorities}
 use Rattle.requests.specs.Check.{IsArenaOf, ByGame, AreSpelled, AreMarks, IsBeyond}
 use Rattle.requests.specs.Check.{RefusesCheck}
 use Rattle.requests.specs.Writers.{Lent, AreKept}

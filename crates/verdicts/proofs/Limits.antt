@@ -1,10 +1,10 @@
 -- The nodes of a normal form.
 use Rattle.std.proofs.Common.{◌≤◌, ℕ, length, arith}
 use Rattle.calculus.specs.Tree.{Formula}
-use Rattle.forms.specs.Tree.{Norm, Constant, Junction, Modality, Fixpoint, Variable, normal_form}
-use Rattle.forms.specs.Nodes.{Rule, nodes_by}
-use Rattle.forms.specs.Rules.{nodes_with, rule_of}
-use Rattle.forms.specs.declared.priorities.Priorities.{Priorities}
+use Rattle.calculus.specs.NormalTree.{Norm, Constant, Junction, Modality, Fixpoint, Variable, normal_form}
+use Rattle.calculus.specs.Nodes.{Rule, nodes_by}
+use Rattle.calculus.specs.Rules.{nodes_with, rule_of}
+use Rattle.calculus.specs.declared.priorities.Priorities.{Priorities}
 
 nodes_some_by : (rule : Rule) (at : ℕ) (f : Norm) → 1 ≤ length (nodes_by rule at f)
 nodes_some_by rule at (Constant flag) = omega arith

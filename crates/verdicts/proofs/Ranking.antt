@@ -5,11 +5,11 @@ use Rattle.calculus.specs.Admitted.{IsAdmitted}
 use Rattle.calculus.specs.Meaning.{MarksOf}
 use Rattle.calculus.specs.Tree.{Formula}
 use Rattle.systems.specs.System.{IsSystem, System}
-use Rattle.forms.specs.declared.limits.TheConstants.{GREATEST_PRIORITY, MOST_NODES}
-use Rattle.forms.specs.declared.priorities.Priorities.{Priorities}
-use Rattle.forms.specs.Nodes.{Node, greatest_node_priority}
-use Rattle.forms.specs.Rules.{nodes_with}
-use Rattle.forms.specs.Tree.{node_count}
+use Rattle.calculus.specs.declared.limits.TheConstants.{GREATEST_PRIORITY, MOST_NODES}
+use Rattle.calculus.specs.declared.priorities.Priorities.{Priorities}
+use Rattle.calculus.specs.Nodes.{Node, greatest_node_priority}
+use Rattle.calculus.specs.Rules.{nodes_with}
+use Rattle.calculus.specs.NormalTree.{node_count}
 use Rattle.game.specs.declared.limits.TheConstants.{MOST_VERTICES}
 use Rattle.game.specs.Arena.{arena, place}
 use Rattle.game.specs.Game.{Game}

@@ -10,8 +10,8 @@ use Rattle.calculus.specs.Meaning.{marked, MarksOf, Satisfies}
 use Rattle.calculus.specs.Tree.{Formula}
 use Rattle.calculus.specs.Admitted.{IsAdmitted}
 use Rattle.systems.specs.System.{System, IsSystem}
-use Rattle.forms.specs.Tree.{normal_form}
-use Rattle.forms.specs.Nodes.{Node}
+use Rattle.calculus.specs.NormalTree.{normal_form}
+use Rattle.calculus.specs.Nodes.{Node}
 use Rattle.laws.specs.Admissible.{IsNodes}
 use Rattle.laws.specs.Laws.{EvenWinsFormula}
 use Rattle.requests.specs.Roots.{HasRoots, WinsRoot}

@@ -1,28 +1,28 @@
 -- What a check by a game finds out.
-use Rattle.std.specs.Prelude.{◌≡◌, ℕ, ◌↔◌, Result, IsTrue, MatchResult, length}
+use Rattle.std.specs.Prelude.{◌≡◌, ℕ, ◌↔◌, IsTrue, length}
 use Rattle.std.specs.Arc.{arc_value}
 use Rattle.systems.specs.System.{System}
 use Rattle.calculus.specs.Tree.{Formula}
 use Rattle.calculus.specs.Closed.{closed_formula}
 use Rattle.calculus.specs.Meaning.{MarksOf}
+use Rattle.calculus.specs.Normal.{normal_nodes}
+use Rattle.calculus.specs.Rules.{nodes_with}
 use Rattle.game.specs.Game.{Game}
 use Rattle.game.specs.Wins.{OddWins, Wins}
 use Rattle.evidence.specs.Best.{IsEvenOf, IsOddOf}
 use Rattle.evidence.specs.Evidence.{IsGood, has}
-use Rattle.evidence.specs.View.{NamedEvidence}
-use Rattle.evidence.specs.declared.error.EvidenceError.{EvidenceError}
-use Rattle.evidence.specs.declared.error.EvidenceError.TheVariants as evidence
 use Rattle.verdicts.specs.declared.lifting.SolvedGame.{SolvedGame}
 use Rattle.verdicts.specs.declared.lifting.Winners.{Winners}
 use Rattle.verdicts.specs.declared.lifting.Winners.TheVariants.{Table, Marks as ByMarks}
 use Rattle.verdicts.specs.declared.findings.Findings.{Findings}
-use Rattle.verdicts.specs.declared.findings.Posed.{Posed}
-use Rattle.certify.specs.declared.pair.EvidencePair.{EvidencePair}
+use Rattle.verdicts.specs.declared.findings.GameToSolve.{GameToSolve}
+use Rattle.evidence.specs.declared.pair.EvidencePair.{EvidencePair}
 use Rattle.requests.specs.Check.{Way, ByGame, AreMarks, IsArenaOf}
 use Rattle.requests.specs.Solver.{FitsBoard}
 
--- The game is that of the system and the formula, and is solved, over the board that was asked for, if one was
+-- The game is that of the system and the formula's normal form, and is solved, over the board that was asked for, if one was
 pub record IsSolvedGame (l : System) (f : Formula) (s : SolvedGame) : Type 0 where
+  pub form : normal_nodes s.form ≡ nodes_with s.priorities f
   pub game : IsArenaOf s.priorities l f (arc_value s.game)
   pub board : FitsBoard s.board (arc_value s.game)
   pub settled : s.settled.game ≡ arc_value s.game
@@ -32,9 +32,10 @@ abbrev pub AreWinnersOf : Game → Winners → Type 0
 AreWinnersOf g (Table settled) = settled.now.game ≡ g
 AreWinnersOf g (ByMarks marks) = MarksOf (length g.vertices) marks.now (Wins g)
 
--- The game that is to be solved is that of the texts.
-abbrev pub ArePosed : Posed → Type 0
-ArePosed x = IsArenaOf x.priorities x.texts.value.system.system (closed_formula x.texts.value.formula) (arc_value x.game)
+-- The normal form and the game that is to be solved are those of the texts.
+pub record ArePosed (x : GameToSolve) : Type 0 where
+  pub form : normal_nodes x.form ≡ nodes_with x.priorities (closed_formula x.texts.value.formula)
+  pub game : IsArenaOf x.priorities x.texts.value.system.system (closed_formula x.texts.value.formula) (arc_value x.game)
 
 abbrev pub system_of : Findings → System
 system_of x = x.texts.value.system.system
@@ -49,24 +50,6 @@ way_in x = ByGame x.solution.priorities x.solution.board
 pub record AreFindings (x : Findings) : Type 0 where
   pub solution : IsSolvedGame (system_of x) (formula_found x) x.solution
   pub marks : AreMarks (way_in x) (system_of x) (formula_found x) x.marks.items
-
--- evidence of all that Even wins, by the least progress table
-pub record IsEvens (g : Game) (e : NamedEvidence) : Type 0 where
-  pub game : e.game ≡ g
-  pub good : IsGood g e.evidence
-  pub exact : (v : ℕ) → IsTrue (has e.evidence v) ↔ Wins g v
-  pub best : IsEvenOf g e.evidence
-
--- evidence of all that Odd wins, by the least progress table of the dual
-pub record IsOdds (g : Game) (e : NamedEvidence) : Type 0 where
-  pub game : e.game ≡ g
-  pub good : IsGood g e.evidence
-  pub exact : (v : ℕ) → IsTrue (has e.evidence v) ↔ OddWins g v
-  pub best : IsOddOf g e.evidence
-
--- evidence of all that Odd wins, or memory was wanting for it
-abbrev pub AreOddsOf : Game → Result NamedEvidence EvidenceError → Type 0
-AreOddsOf g made = MatchResult made (IsOdds g) (λ e. e ≡ evidence.Memory)
 
 -- evidence of all that each player wins
 pub record IsPairOf (g : Game) (pair : EvidencePair) : Type 0 where

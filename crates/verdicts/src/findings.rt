@@ -13,20 +13,22 @@ ghost use Rattle.verdicts.specs.Findings.{AreFindings, ArePosed, formula_found, 
 ghost use Rattle.requests.specs.Solver.{FitsBoard, IsUnsolved};
 ghost use Rattle.requests.specs.Writers.{AreKept, Lent};
 
-use crate::guessing::guessed_table;
 use crate::lifting::{SolvedGame, Winners, state_marks};
-use arena_search::measures::Side;
-use certify::decide::certified_winners;
+use crate::proposing::guessed_table;
+use arena_search::measures::{Measures, Side, least_measures};
+use calculus::form::Normal;
+use calculus::priorities::Priorities;
+use evidence::decide::certified_winners;
 use evidence::error::EvidenceError;
 use evidence::evidence::Evidence;
 use evidence::make::{odd_evidence_from, odd_evidence_of};
-use forms::priorities::Priorities;
+use game::build::build_seen;
 use game::dual::dual;
 use game::graph::Game;
-use measures::observer::{Observer, Silent, Stage};
+use game::observer::{Observer, Silent, Stage};
 use measures::settle::solve_one;
 use measures::table::Settled;
-use requests::arena::arena_of;
+use normal::make::normal_with;
 use requests::error::MuError;
 use requests::request::Options;
 use requests::solver::solve_seen;
@@ -47,13 +49,16 @@ pub struct Findings {
     pub texts: Box<Texts>,
     pub solution: SolvedGame,
     pub marks: Vec<bool>,
+    /// What was guessed of the least measures of both players, if they were searched for.
+    pub guess: Option<Measures>,
 }
 
-/// Both texts, and their game, which is to be solved.
+/// Both texts, the formula's normal form, and their game, which is to be solved.
 #[derive(Drop)]
-pub struct Posed {
+pub struct GameToSolve {
     pub texts: Box<Texts>,
     pub priorities: Priorities,
+    pub form: Normal,
     pub game: Arc<Game, Global>,
 }
 
@@ -78,10 +83,8 @@ pub fn find_alone<L: BuildHasher + Drop, R: Source + Drop, S: Source + Drop, H: 
         → (writers : List Lent) → AreKept writers → IfErr result (RefusesCheck (ByGame priorities None) first second writers) }
     ensures cause { IfErr result (HaveCauses R.can_fail S.can_fail) }
 {
-    match read_and_build(rt, alloc, hasher, aut, formula, priorities) {
-        Ok(posed) => find_by_one(alloc, posed),
-        Err(error) => Err(error),
-    }
+    let posed = read_and_build(rt, alloc, hasher, aut, formula, priorities)?;
+    find_by_one(alloc, posed)
 }
 
 /// Reads both texts, and finds out by the workers, over the board that the options ask for, which states satisfy the formula. They lift from the
@@ -112,10 +115,8 @@ pub fn find_with<
         → (writers : List Lent) → AreKept writers → IfErr result (RefusesCheck (ByGame options.now.priorities (Some options.now.board)) first second writers) }
     ensures cause { IfErr result (HaveCauses R.can_fail S.can_fail) }
 {
-    match read_and_build(rt, alloc, hasher, aut, formula, options.priorities) {
-        Ok(posed) => find_by_workers(rt, alloc, posed, options, gate),
-        Err(error) => Err(error),
-    }
+    let posed = read_and_build(rt, alloc, hasher, aut, formula, options.priorities)?;
+    find_by_workers(rt, alloc, posed, options, gate)
 }
 
 /// Finds what `find_with` does, of texts that were read, and tells a watcher what is being built, searched and lifted. Where no board is named and a guess of
@@ -135,10 +136,8 @@ pub fn find_in<O: Watcher + Sync, H: Threads + Wait + Clone + Copy + Drop + Send
     ensures texts { IfOk result (λ found. found.texts.value ≡ texts) }
     ensures refusal { IfErr result (IsBeyond (ByGame options.now.priorities (Some options.now.board)) texts.system.system (closed_formula texts.formula)) }
 {
-    match boxed(alloc, texts) {
-        Ok(texts) => find_boxed(rt, alloc, texts, options, observer),
-        Err(Memory) => Err(MuError::Memory),
-    }
+    let texts = boxed(alloc, texts)?;
+    find_boxed(rt, alloc, texts, options, observer)
 }
 
 /// The value in a box.
@@ -161,10 +160,8 @@ fn find_boxed<O: Watcher + Sync, H: Threads + Wait + Clone + Copy + Drop + Send 
     ensures refusal { IfErr result (IsBeyond (ByGame options.now.priorities (Some options.now.board)) texts.value.system.system
         (closed_formula texts.value.formula)) }
 {
-    match build_of(rt, alloc, texts, options.priorities, observer) {
-        Ok(posed) => find_posed(rt, alloc, posed, options, observer),
-        Err(error) => Err(error),
-    }
+    let posed = build_of(rt, alloc, texts, options.priorities, observer)?;
+    find_posed(rt, alloc, posed, options, observer)
 }
 
 /// Reads both texts, and makes their game.
@@ -175,7 +172,7 @@ fn read_and_build<L: BuildHasher + Drop, R: Source + Drop, S: Source + Drop, H: 
     aut: R,
     formula: S,
     priorities: Priorities,
-) -> Result<Posed, MuError>
+) -> Result<GameToSolve, MuError>
     ensures posed { IfOk result ArePosed }
     ensures rule { IfOk result (λ posed. posed.priorities ≡ priorities) }
     ensures spelled { (first second : List ℕ) → R.remaining aut ≡ Some first → S.remaining formula ≡ Some second
@@ -184,13 +181,9 @@ fn read_and_build<L: BuildHasher + Drop, R: Source + Drop, S: Source + Drop, H: 
         → (board : Option BoardKind) (writers : List Lent) → AreKept writers → IfErr result (RefusesCheck (ByGame priorities board) first second writers) }
     ensures cause { IfErr result (HaveCauses R.can_fail S.can_fail) }
 {
-    match read_both(alloc, hasher, aut, formula) {
-        Ok(texts) => match boxed(alloc, texts) {
-            Ok(texts) => build_of(rt, alloc, texts, priorities, &Silent),
-            Err(Memory) => Err(MuError::Memory),
-        },
-        Err(error) => Err(error),
-    }
+    let texts = read_both(alloc, hasher, aut, formula)?;
+    let boxed = boxed(alloc, texts)?;
+    build_of(rt, alloc, boxed, priorities, &Silent)
 }
 
 /// Makes the game of these texts.
@@ -200,7 +193,7 @@ fn build_of<O: Observer, H: Threads + Sync>(
     texts: Box<Texts>,
     priorities: Priorities,
     observer: &O,
-) -> Result<Posed, MuError>
+) -> Result<GameToSolve, MuError>
     ensures posed { IfOk result ArePosed }
     ensures rule { IfOk result (λ posed. posed.priorities ≡ priorities) }
     ensures texts { IfOk result (λ posed. posed.texts.value ≡ texts.value) }
@@ -209,45 +202,35 @@ fn build_of<O: Observer, H: Threads + Sync>(
     observer.sees(Stage::Building {
         states: texts.system.states(),
     });
-    match arena_of(
-        rt,
-        alloc,
-        &texts.system,
-        &texts.formula,
+    let Texts { system, formula } = &*texts;
+    let form = normal_with(alloc, formula, priorities).map_err(MuError::Normal)?;
+    let game = build_seen(rt, alloc, system, &form, observer.gauge()).map_err(MuError::Build)?;
+    let game = Arc::new(alloc, game)?;
+    Ok(GameToSolve {
+        texts,
         priorities,
-        observer.gauge(),
-    ) {
-        Ok(game) => match Arc::new(alloc, game) {
-            Ok(game) => Ok(Posed {
-                texts,
-                priorities,
-                game,
-            }),
-            Err(_) => Err(MuError::Memory),
-        },
-        Err(error) => Err(error),
-    }
+        form,
+        game,
+    })
 }
 
 /// What is found out of these texts on one thread.
-fn find_by_one(alloc: Global, posed: Posed) -> Result<Findings, MuError>
+fn find_by_one(alloc: Global, posed: GameToSolve) -> Result<Findings, MuError>
     requires { ArePosed posed }
     ensures found { IfOk result AreFindings }
     ensures way { IfOk result (λ found. way_in found ≡ ByGame posed.priorities None) }
     ensures texts { IfOk result (λ found. found.texts.value ≡ posed.texts.value) }
     ensures refusal { IfErr result (λ e. e ≡ MuError.Memory) }
 {
-    match solve_one(alloc, &posed.game) {
-        Ok(settled) => find_solved(alloc, posed, None, settled),
-        Err(Memory) => Err(MuError::Memory),
-    }
+    let settled = solve_one(alloc, &posed.game)?;
+    find_solved(alloc, posed, None, settled, None)
 }
 
 /// What is found out of these texts by workers, who lift from the opening table on.
 fn find_by_workers<T: Gate + Sync, H: Threads + Wait + Clone + Copy + Drop + Send + Sync>(
     rt: &H,
     alloc: Global,
-    posed: Posed,
+    posed: GameToSolve,
     options: &Options,
     gate: &T,
 ) -> Result<Findings, MuError>
@@ -257,17 +240,15 @@ fn find_by_workers<T: Gate + Sync, H: Threads + Wait + Clone + Copy + Drop + Sen
     ensures texts { IfOk result (λ found. found.texts.value ≡ posed.texts.value) }
     ensures refusal { IfErr result (IsUnsolved (Some options.now.board) (arc_value posed.game)) }
 {
-    match solve_seen(rt, alloc, &posed.game, options, gate, &Silent, None) {
-        Ok(settled) => find_solved(alloc, posed, Some(options.board), settled),
-        Err(error) => Err(error),
-    }
+    let settled = solve_seen(rt, alloc, &posed.game, options, gate, &Silent, None)?;
+    find_solved(alloc, posed, Some(options.board), settled, None)
 }
 
 /// What is found out of these texts, over the board that the options ask for.
 fn find_posed<O: Observer + Sync, H: Threads + Wait + Clone + Copy + Drop + Send + Sync>(
     rt: &H,
     alloc: Global,
-    posed: Posed,
+    posed: GameToSolve,
     options: &Options,
     observer: &O,
 ) -> Result<Findings, MuError>
@@ -277,19 +258,35 @@ fn find_posed<O: Observer + Sync, H: Threads + Wait + Clone + Copy + Drop + Send
     ensures texts { IfOk result (λ found. found.texts.value ≡ posed.texts.value) }
     ensures refusal { IfErr result (IsUnsolved (Some options.now.board) (arc_value posed.game)) }
 {
-    match settle_posed(rt, alloc, &posed, options, observer) {
-        Ok(settled) => find_solved(alloc, posed, Some(options.board), settled),
-        Err(error) => Err(error),
-    }
+    let guess = guess_of(alloc, &posed, options.board, observer);
+    let settled = settle_posed(rt, alloc, &posed, options, &guess, observer)?;
+    find_solved(alloc, posed, Some(options.board), settled, guess)
 }
 
-/// The least progress table. Over a board that is named workers lift it from the opening table on. Else it is guessed; where no guess is good, workers lift it
-/// from a table that has top where certified evidence says that Odd wins.
+/// What is guessed of the least measures of both players, unless a board is named, over which workers are to lift.
+fn guess_of<O: Observer>(
+    alloc: Global,
+    posed: &GameToSolve,
+    board: BoardKind,
+    observer: &O,
+) -> Option<Measures> {
+    if board.is_named() {
+        return None;
+    }
+    observer.sees(Stage::Searching {
+        vertices: posed.game.vertices(),
+    });
+    least_measures(alloc, &posed.texts.system, &posed.form)
+}
+
+/// The least progress table. Over a board that is named workers lift it from the opening table on. Else it is the one that is guessed, where that is good; or
+/// workers lift it from a table that has top where certified evidence says that Odd wins.
 fn settle_posed<O: Observer + Sync, H: Threads + Wait + Clone + Copy + Drop + Send + Sync>(
     rt: &H,
     alloc: Global,
-    posed: &Posed,
+    posed: &GameToSolve,
     options: &Options,
+    guess: &Option<Measures>,
     observer: &O,
 ) -> Result<Settled, MuError>
     ensures game { IfOk result (λ s. s.game ≡ arc_value posed.now.game) }
@@ -300,11 +297,10 @@ fn settle_posed<O: Observer + Sync, H: Threads + Wait + Clone + Copy + Drop + Se
     if options.board.is_named() {
         return solve_seen(rt, alloc, game, options, &NoGate, observer, None);
     }
-    observer.sees(Stage::Searching {
-        vertices: game.vertices(),
-    });
-    if let Some(settled) = guessed_table(alloc, &posed.texts, posed.priorities, Side::Even, game) {
-        return Ok(settled);
+    if let Some(guess) = guess {
+        if let Some(settled) = guessed_table(alloc, guess, Side::Even, game) {
+            return Ok(settled);
+        }
     }
     let won = certified_winners(alloc, game, observer.gauge());
     solve_seen(rt, alloc, game, options, &NoGate, observer, won.as_deref())
@@ -313,9 +309,10 @@ fn settle_posed<O: Observer + Sync, H: Threads + Wait + Clone + Copy + Drop + Se
 /// What is found out where the game is solved.
 fn find_solved(
     alloc: Global,
-    posed: Posed,
+    posed: GameToSolve,
     board: Option<BoardKind>,
     settled: Settled,
+    guess: Option<Measures>,
 ) -> Result<Findings, MuError>
     requires posed { ArePosed posed }
     requires board { FitsBoard board (arc_value posed.game) }
@@ -326,9 +323,10 @@ fn find_solved(
     ensures game { IfOk result (λ found. arc_value found.solution.game ≡ arc_value posed.game) }
     ensures refusal { IfErr result (λ e. e ≡ MuError.Memory) }
 {
-    let Posed {
+    let GameToSolve {
         texts,
         priorities,
+        form,
         game,
     } = posed;
     let Texts { system, formula } = &*texts;
@@ -339,14 +337,16 @@ fn find_solved(
         solution: SolvedGame {
             priorities,
             board,
+            form,
             game,
             settled,
         },
         marks,
+        guess,
     })
 }
 
-/// The evidence of all that Odd wins: by a guess, where no board is named and the guess is good, and else by lifting the dual game.
+/// The evidence of all that Odd wins: by the guess, where there is one and it is good, and else by lifting the dual game.
 ///
 /// # Errors
 /// E5.
@@ -358,16 +358,15 @@ pub fn odd_evidence_found(alloc: Global, found: &Findings) -> Result<Evidence, E
     ensures good { IfOk result (λ e. IsGood (arc_value found.now.solution.game) e.evidence) }
     ensures exact { IfOk result (λ e. (v : ℕ) → IsTrue (has e.evidence v) ↔ OddWins (arc_value found.now.solution.game) v) }
 {
-    let solution = &found.solution;
-    let game = &solution.game;
-    if solution.is_named() {
-        return odd_evidence_from(alloc, game, &solution.settled);
-    }
+    let SolvedGame { game, settled, .. } = &found.solution;
+    let Some(guess) = &found.guess else {
+        return odd_evidence_from(alloc, game, settled);
+    };
     let Ok(turned) = dual(alloc, game) else {
         return Err(EvidenceError::Memory);
     };
-    match guessed_table(alloc, &found.texts, solution.priorities, Side::Odd, &turned) {
-        Some(settled) => odd_evidence_of(alloc, game, &turned, &settled),
-        None => odd_evidence_from(alloc, game, &solution.settled),
+    match guessed_table(alloc, guess, Side::Odd, &turned) {
+        Some(other) => odd_evidence_of(alloc, game, &turned, &other),
+        None => odd_evidence_from(alloc, game, settled),
     }
 }

@@ -13,7 +13,8 @@ ghost use Rattle.workers.specs.declared.team.BoardKind.{BoardKind};
 ghost use Rattle.verdicts.specs.Findings.{AreWinnersOf};
 
 use calculus::closed::Closed;
-use forms::priorities::Priorities;
+use calculus::form::Normal;
+use calculus::priorities::Priorities;
 use game::graph::Game;
 use laws::{chosen_is_admissible, even_wins_where_meant};
 use lts::system::Lts;
@@ -24,20 +25,14 @@ use std::alloc::{AllocError, Global};
 use std::sync::Arc;
 use workers::team::BoardKind;
 
-/// A game and its least progress table, with the rule by which it was made and the board that was asked for, if one was.
+/// The game of a normal form and its least progress table, with the rule by which it was made and the board that was asked for, if one was.
 #[derive(Drop)]
 pub struct SolvedGame {
     pub priorities: Priorities,
     pub board: Option<BoardKind>,
+    pub form: Normal,
     pub game: Arc<Game, Global>,
     pub settled: Settled,
-}
-
-impl SolvedGame {
-    /// Whether workers lifted it over a board that was named.
-    pub fn is_named(&self) -> bool {
-        self.board.is_some_and(|board| board.is_named())
-    }
 }
 
 /// Who wins the vertices of a game.
@@ -79,14 +74,12 @@ pub fn state_marks(
         → AreMarks (ByGame priorities board) system.now.system (closed_formula formula.now) marks.items) }
     ensures refusal { IfErr result (λ e. e ≡ MuError.Memory) }
 {
+    // For the proof alone: clauses name it.
     let _ = priorities;
     chosen_is_admissible();
     even_wins_where_meant();
     let states = system.states();
-    match root_marks(alloc, states, game, winners) {
-        Ok(marks) => Ok(marks),
-        Err(AllocError) => Err(MuError::Memory),
-    }
+    Ok(root_marks(alloc, states, game, winners)?)
 }
 
 /// A mark for each state, true where Even wins its vertex with the root node.

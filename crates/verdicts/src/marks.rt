@@ -1,6 +1,6 @@
 // The states of a system that satisfy a formula, of texts that are lent.
 
-ghost use Rattle.std.specs.Prelude.{IfOk, IfErr, MatchResult, Some};
+ghost use Rattle.std.specs.Prelude.{MatchResult, Some};
 ghost use Rattle.std.specs.Arc.{arc_value};
 ghost use Rattle.calculus.specs.Closed.{closed_formula};
 ghost use Rattle.requests.specs.Check.{AreMarks, BySets, ByGame, IsArenaOf, IsBeyond};
@@ -9,10 +9,9 @@ use crate::lifting::{Winners, state_marks};
 use crate::ranked::ranked_marks;
 use calculus::closed::Closed;
 use game::graph::Game;
-use lts::Memory;
+use game::observer::{Observer, Stage};
 use lts::system::Lts;
 use meaning::plain::plain_states;
-use measures::observer::{Observer, Stage};
 use requests::arena::arena_of;
 use requests::error::MuError;
 use requests::request::Options;
@@ -29,10 +28,7 @@ pub fn plain_marks(alloc: Global, system: &Lts, formula: &Closed) -> Result<Vec<
     ensures { let l = system.now.system in let f = closed_formula formula.now in
         MatchResult result (λ marks. AreMarks BySets l f marks.items) (IsBeyond BySets l f) }
 {
-    match plain_states(alloc, system, formula) {
-        Ok(marks) => Ok(marks),
-        Err(Memory) => Err(MuError::Memory),
-    }
+    Ok(plain_states(alloc, system, formula)?)
 }
 
 /// A mark for each state, true where it satisfies the formula, by the game: by a ranking of it, where one that is guessed is good, and then it isn't stored.
@@ -74,20 +70,16 @@ fn stored_marks<O: Observer + Sync, H: Threads + Wait + Clone + Copy + Drop + Se
     observer.sees(Stage::Building {
         states: system.states(),
     });
-    match arena_of(
+    let game = arena_of(
         rt,
         alloc,
         system,
         formula,
         options.priorities,
         observer.gauge(),
-    ) {
-        Ok(game) => match Arc::new(alloc, game) {
-            Ok(game) => marks_in(rt, alloc, system, formula, &game, options, observer),
-            Err(_) => Err(MuError::Memory),
-        },
-        Err(error) => Err(error),
-    }
+    )?;
+    let game = Arc::new(alloc, game)?;
+    marks_in(rt, alloc, system, formula, &game, options, observer)
 }
 
 /// A mark for each state, true where it satisfies the formula, in the game of both.
@@ -104,11 +96,7 @@ fn marks_in<O: Observer + Sync, H: Threads + Wait + Clone + Copy + Drop + Send +
     ensures { let l = system.now.system in let f = closed_formula formula.now in let way = ByGame options.now.priorities (Some options.now.board) in
         MatchResult result (λ marks. AreMarks way l f marks.items) (IsBeyond way l f) }
 {
-    match winners_by(rt, alloc, game, options, observer) {
-        Ok(won) => {
-            let winners = Winners::Marks(&won);
-            state_marks(alloc, system, formula, options.priorities, game, winners)
-        }
-        Err(error) => Err(error),
-    }
+    let won = winners_by(rt, alloc, game, options, observer)?;
+    let winners = Winners::Marks(&won);
+    state_marks(alloc, system, formula, options.priorities, game, winners)
 }

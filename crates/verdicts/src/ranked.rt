@@ -3,19 +3,19 @@
 ghost use Rattle.std.specs.Prelude.{◌≡◌, ◌+◌, ◌*◌, ◌≤◌, ◌↔◌, IfSome, IsTrue, Some, length};
 ghost use Rattle.calculus.specs.Closed.{closed_formula};
 ghost use Rattle.calculus.specs.Meaning.{MarksOf};
-ghost use Rattle.forms.specs.Normal.{normal_nodes};
+ghost use Rattle.calculus.specs.Normal.{normal_nodes};
 ghost use Rattle.game.specs.declared.limits.TheConstants.{MOST_VERTICES};
 ghost use Rattle.game.specs.Arena.{arena, place};
 ghost use Rattle.game.specs.Wins.{Wins};
 ghost use Rattle.requests.specs.Check.{AreMarks, ByGame};
 
-use crate::hands::hands;
+use crate::threads::thread_count;
 use arena_search::ranking::ranking;
 use calculus::closed::Closed;
-use forms::form::Normal;
+use calculus::form::Normal;
+use game::observer::{Observer, Stage};
 use laws::{chosen_is_admissible, even_wins_where_meant};
 use lts::system::Lts;
-use measures::observer::{Observer, Stage};
 use normal::make::normal_with;
 use rankings::sheet::Sheet;
 use rankings::winners::root_winners;
@@ -71,8 +71,14 @@ pub(crate) fn ranked_marks<O: Observer, H: Threads + Sync>(
         Ok(form) => {
             let vertices = 2 + states * form.count();
             observer.sees(Stage::Searching { vertices });
-            let hands = hands(rt, options.workers as usize);
-            ranked_winners(rt, alloc, system, &form, u32::try_from(hands).unwrap_or(1))
+            let threads = thread_count(rt, options.workers as usize);
+            ranked_winners(
+                rt,
+                alloc,
+                system,
+                &form,
+                u32::try_from(threads).unwrap_or(1),
+            )
         }
         Err(_) => None,
     }

@@ -4,7 +4,7 @@ use Rattle.std.specs.Prelude.{slice_get, slice_index_or, ◌↔◌}
 use Rattle.std.proofs.lemmas.Bool.{cases_lt}
 use Rattle.std.proofs.lemmas.Option.{slice_get_within}
 use Rattle.why.specs.Story.{AreHeads, HasMarked}
-use Rattle.why.specs.declared.visit.Kind.TheVariants.{Back}
+use Rattle.why.specs.declared.visit.Continuation.TheVariants.{Back}
 use Rattle.why.specs.declared.visit.Visit.{Visit}
 
 -- so many first visits are looked at

@@ -6,10 +6,10 @@ use Rattle.std.specs.List.{AllByRecursion}
 use Rattle.std.proofs.lemmas.Bool.Decides.{nat_tests}
 use Rattle.text.specs.Pieces.{line_end}
 use Rattle.systems.specs.System.{Arrow, IsArrow, System}
-use Rattle.forms.specs.Nodes.{Node}
-use Rattle.forms.specs.Tree.{Shape}
+use Rattle.calculus.specs.Nodes.{Node}
+use Rattle.calculus.specs.NormalTree.{Shape}
 use Rattle.why.specs.Story.{blanks_before, end_text, sink_text, shape_at, state_of}
-use Rattle.why.specs.declared.visit.Kind.TheVariants.{Sink}
+use Rattle.why.specs.declared.visit.Continuation.TheVariants.{Sink}
 
 -- From a number that is no state no transition leads.
 pub none_from : (n s : ℕ) (arrows : List Arrow) → AllByRecursion (IsArrow n) arrows → n ≤ s → filter (λ (a : Arrow). a.source == s) arrows ≡ []

@@ -9,7 +9,7 @@ use Rattle.std.proofs.lemmas.Bool.{cases_lt}
 use Rattle.std.proofs.lemmas.Option.{slice_get_within}
 use Rattle.std.proofs.lemmas.List.Elements.{Contains-push_cases, Contains-append_left, Contains-push}
 use Rattle.game.specs.Game.{Game}
-use Rattle.progress.proofs.Lists.{contains_cases, contains_first, contains_later, contains_none}
+use Rattle.measures.proofs.Lists.{contains_cases, contains_first, contains_later, contains_none}
 use Rattle.evidence.specs.Evidence.{Entry, Evidence, IsEvidence, IsGood, has}
 use Rattle.evidence.specs.Witness.{Goes}
 use Rattle.evidence.specs.declared.verdict.Fault.TheVariants.{Leaves}
@@ -17,8 +17,8 @@ use Rattle.witness.specs.Walk.{AreGoals, is_marked, unmarked_vertices}
 use Rattle.witness.proofs.Setting.{one_fewer, set_adds}
 use Rattle.why.specs.Telling.{Comes, GoesOnlyTo, IsOfKind, IsTelling, IsVisit, LeadsOn, WasTold, deeper, goes_on, way_to}
 use Rattle.why.specs.Walk.{HasAdded, HasLetWait, HasTold, HasTwo, IsWalk, IsWalkBy, count_of, left, way_on}
-use Rattle.why.specs.declared.visit.Kind.{Kind}
-use Rattle.why.specs.declared.visit.Kind.TheVariants.{On, Branch, Sink, Back, Told}
+use Rattle.why.specs.declared.visit.Continuation.{Continuation}
+use Rattle.why.specs.declared.visit.Continuation.TheVariants.{On, Branch, Sink, Back, Told}
 use Rattle.why.specs.declared.visit.Visit.{Visit}
 use Rattle.why.specs.declared.visit.Way.{Way}
 use Rattle.why.specs.declared.walk.Walk.{Walk}
@@ -58,7 +58,7 @@ pub comes_more : (g : Game) (e : Evidence) (root k : ℕ) (vs : List Visit) (x :
 comes_more g e root k vs x way (inl h) = inl h
 comes_more g e root k vs x way (inr h) = inr (h.0, h.1, at_more vs x h.0 h.1 h.2, h.3)
 
-pub kind_more : (g : Game) (e : Evidence) (k u : ℕ) (vs : List Visit) (x : Visit) (kind : Kind) → IsOfKind g e vs k u kind → IsOfKind g e (vs ++ x ∷ []) k u kind
+pub kind_more : (g : Game) (e : Evidence) (k u : ℕ) (vs : List Visit) (x : Visit) (kind : Continuation) → IsOfKind g e vs k u kind → IsOfKind g e (vs ++ x ∷ []) k u kind
 kind_more g e k u vs x On h = h
 kind_more g e k u vs x Branch h = h
 kind_more g e k u vs x Sink h = h
@@ -98,7 +98,7 @@ has_within g e u is h = subst (λ n. u < n) is.long (got e.entries u h)
 
 -- ------------------------------------------------------------------ a visit is added
 
-module _ (g : Game) (e : Evidence) (root : ℕ) (told : List Bool) (vs : List Visit) (start : ℕ) (waiting : List Way) (way : Way) (kind : Kind)
+module _ (g : Game) (e : Evidence) (root : ℕ) (told : List Bool) (vs : List Visit) (start : ℕ) (waiting : List Way) (way : Way) (kind : Continuation)
     (is : IsWalk g e root told vs start waiting (Some way)) (right : IsOfKind g e vs (length vs) way.vertex kind) where
   abbrev visit : Visit
   visit = record { way = way; kind = kind }
@@ -169,7 +169,7 @@ module _ (g : Game) (e : Evidence) (root : ℕ) (told : List Bool) (vs : List Vi
   }
 
 -- it ends its run
-pub walk_ends_run : (g : Game) (e : Evidence) (root : ℕ) (told : List Bool) (vs : List Visit) (start : ℕ) (waiting : List Way) (way : Way) (kind : Kind)
+pub walk_ends_run : (g : Game) (e : Evidence) (root : ℕ) (told : List Bool) (vs : List Visit) (start : ℕ) (waiting : List Way) (way : Way) (kind : Continuation)
     → goes_on kind ≡ false → IsWalk g e root told vs start waiting (Some way) → IsOfKind g e vs (length vs) way.vertex kind
     → IsWalk g e root told (vs ++ record { way = way; kind = kind } ∷ []) (length vs + 1) waiting None
 walk_ends_run g e root told vs start waiting way kind ends is right =
@@ -306,7 +306,7 @@ walk_stops g e root most told vs start waiting next some many is = record {
 
 -- ------------------------------------------------------------------ a way is told
 
-by_added : (g : Game) (e : Evidence) (root : ℕ) (way : Way) (kind : Kind) (old new : Walk) (marks : List Bool) (begin : ℕ) (after : Option Way)
+by_added : (g : Game) (e : Evidence) (root : ℕ) (way : Way) (kind : Continuation) (old new : Walk) (marks : List Bool) (begin : ℕ) (after : Option Way)
     → HasAdded way kind old new marks begin
     → IsWalk g e root marks (old.visits.items ++ record { way = way; kind = kind } ∷ []) begin new.waiting.items after → IsWalkBy g e root new after
 by_added g e root way kind old new marks begin after is h =
@@ -314,7 +314,7 @@ by_added g e root way kind old new marks begin after is h =
     (subst (λ vs. IsWalk g e root marks vs new.start new.waiting.items after) (sym is.visits)
     (subst (λ n. IsWalk g e root marks (old.visits.items ++ record { way = way; kind = kind } ∷ []) n new.waiting.items after) (sym is.start) h))
 
-pub told_end : (g : Game) (e : Evidence) (way : Way) (kind : Kind) (old new : Walk) (r : Result (Option Way) Memory) → goes_on kind ≡ false
+pub told_end : (g : Game) (e : Evidence) (way : Way) (kind : Continuation) (old new : Walk) (r : Result (Option Way) Memory) → goes_on kind ≡ false
     → ((root : ℕ) → IsWalkBy g e root old (Some way) → IsOfKind g e old.visits.items (length old.visits.items) way.vertex kind)
     → IfOk r (λ next. next ≡ None) → IfOk r (λ _. HasAdded way kind old new old.told.items (length old.visits.items + 1))
     → IfOk r (λ _. new.waiting.items ≡ old.waiting.items) → IfOk r (HasTold g e way old new)

@@ -2,7 +2,7 @@
 use Rattle.std.proofs.Common.{◌≡◌, ◌≢◌, ℕ, ◌+◌, ◌≤◌, ◌<◌, List, [], ◌∷◌, length, refl, sym, subst, ◌∙◌, arith, Some, None}
 use Rattle.std.specs.List.{AllByRecursion}
 use Rattle.game.specs.Game.{Game, IsAscending, IsVertex, Vertex, vertex}
-use Rattle.progress.proofs.Lists.{contains_first, contains_later}
+use Rattle.measures.proofs.Lists.{contains_first, contains_later}
 use Rattle.laws.proofs.Lists.{only_in}
 use Rattle.evidence.specs.Evidence.{Entry, Evidence, IsGood, entry_at}
 use Rattle.witness.specs.Walk.{AreGoals}

@@ -11,11 +11,11 @@ use Rattle.text.specs.Wrote.{lines_from}
 use Rattle.calculus.specs.Tree.{Action}
 use Rattle.calculus.specs.Canon.{action_text}
 use Rattle.calculus.specs.Holds.{holds}
-use Rattle.forms.specs.Nodes.{Node}
-use Rattle.forms.specs.Tree.{Shape, ConstantNode, ModalityNode}
+use Rattle.calculus.specs.Nodes.{Node}
+use Rattle.calculus.specs.NormalTree.{Shape, ConstantNode, ModalityNode}
 use Rattle.why.specs.Telling.{goes_on}
-use Rattle.why.specs.declared.visit.Kind.{Kind}
-use Rattle.why.specs.declared.visit.Kind.TheVariants.{On, Branch, Sink, Back, Told}
+use Rattle.why.specs.declared.visit.Continuation.{Continuation}
+use Rattle.why.specs.declared.visit.Continuation.TheVariants.{On, Branch, Sink, Back, Told}
 use Rattle.why.specs.declared.visit.Visit.{Visit}
 use Rattle.why.specs.declared.visit.TheConstants.{MOST_BLANKS, MOST_COLUMNS}
 
@@ -103,7 +103,7 @@ sink_text l s (ModalityNode flag a child) = lack_text l s a
 sink_text l s _ = []
 
 -- how a run ends
-abbrev pub end_text : System → List Node → (vertex blanks : ℕ) → Kind → List ℕ
+abbrev pub end_text : System → List Node → (vertex blanks : ℕ) → Continuation → List ℕ
 end_text l nodes v blanks On = []
 end_text l nodes v blanks Branch = []
 end_text l nodes v blanks Sink =
@@ -112,7 +112,7 @@ end_text l nodes v blanks (Back i) = blanks_before blanks ++ (codes "back to " +
 end_text l nodes v blanks Told = blanks_before blanks ++ (decimal (state_of (length nodes) v) ++ (codes ": as above" ++ line_end))
 
 -- the vertex from which the last step was taken, where a line of the same run tells it
-abbrev pub step_after : List Node → Kind → (from before : Option ℕ) → Option ℕ
+abbrev pub step_after : List Node → Continuation → (from before : Option ℕ) → Option ℕ
 step_after nodes On None before = before
 step_after nodes On (Some u) before = if is_some (action_at nodes u) then Some u else before
 step_after nodes _ from before = None
@@ -142,7 +142,7 @@ AreHeads visits heads =
     (i : ℕ) → i < length visits → IsTrue (slice_index_or heads i false) ↔ ((k : ℕ) × (v : Visit) × (slice_get visits k ≡ Some v) × (v.kind ≡ Back i))
 
 -- That of such a visit was added, where a run ends so.
-abbrev pub HasMarked : Kind → (old new : List Bool) → Type 0
+abbrev pub HasMarked : Continuation → (old new : List Bool) → Type 0
 HasMarked kind old new = (i : ℕ) → i < length old → IsTrue (slice_index_or new i false) ↔ (IsTrue (slice_index_or old i false) ⊎ (kind ≡ Back i))
 
 -- ------------------------------------------------------------------ what is told of it all
@@ -177,7 +177,7 @@ rest_text most count visits = if nat_lt count visits || nat_le most visits then 
 abbrev pub story_text : System → List Node → (most : ℕ) → List Visit → (heads : List Bool) → (count : ℕ) → List ℕ
 story_text l nodes most visits heads count = lines_from (text_at l nodes visits heads) 0 count ++ rest_text most count (length visits)
 
-abbrev pub is_branch : Kind → Bool
+abbrev pub is_branch : Continuation → Bool
 is_branch Branch = true
 is_branch _ = false
 

@@ -4,8 +4,8 @@ use Rattle.game.specs.Game.{Game}
 use Rattle.evidence.specs.Evidence.{Evidence}
 use Rattle.evidence.specs.Witness.{Goes}
 use Rattle.witness.specs.Witness.{GoesOneWayFrom}
-use Rattle.why.specs.declared.visit.Kind.{Kind}
-use Rattle.why.specs.declared.visit.Kind.TheVariants.{On, Branch, Sink, Back, Told}
+use Rattle.why.specs.declared.visit.Continuation.{Continuation}
+use Rattle.why.specs.declared.visit.Continuation.TheVariants.{On, Branch, Sink, Back, Told}
 use Rattle.why.specs.declared.visit.Visit.{Visit}
 use Rattle.why.specs.declared.visit.Way.{Way}
 use Rattle.why.specs.declared.visit.TheConstants.{MOST_BLANKS}
@@ -15,7 +15,7 @@ abbrev pub IsVisit : List Visit → ℕ → Visit → Type 0
 IsVisit visits i v = slice_get visits i ≡ Some v
 
 -- The play is told further from a visit of this kind.
-abbrev pub goes_on : Kind → Bool
+abbrev pub goes_on : Continuation → Bool
 goes_on On = true
 goes_on Branch = true
 goes_on _ = false
@@ -25,7 +25,7 @@ abbrev pub deeper : ℕ → ℕ
 deeper blanks = if nat_lt blanks MOST_BLANKS then blanks + 2 else blanks
 
 -- how many blanks stand before what follows a visit of this kind
-abbrev pub blanks_after : Kind → ℕ → ℕ
+abbrev pub blanks_after : Continuation → ℕ → ℕ
 blanks_after On blanks = blanks
 blanks_after _ blanks = deeper blanks
 
@@ -74,7 +74,7 @@ pub record ComesBack (visits : List Visit) (k u i : ℕ) : Type 0 where
 
 -- What is told of the visit of number k to this vertex is so: the play has one way on; or it has several; or its only way on is to a sink; or it was at the
 -- vertex before, in this run or in another.
-abbrev pub IsOfKind : Game → Evidence → List Visit → ℕ → ℕ → Kind → Type 0
+abbrev pub IsOfKind : Game → Evidence → List Visit → ℕ → ℕ → Continuation → Type 0
 IsOfKind g e visits k u On = (t : ℕ) × (2 ≤ t) × GoesOnlyTo g e u t
 IsOfKind g e visits k u Branch = (s t : ℕ) × (s ≢ t) × Goes g e u s × Goes g e u t
 IsOfKind g e visits k u Sink = (t : ℕ) × (t < 2) × GoesOnlyTo g e u t

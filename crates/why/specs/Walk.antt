@@ -5,8 +5,8 @@ use Rattle.evidence.specs.Evidence.{Evidence, has}
 use Rattle.evidence.specs.Witness.{Goes}
 use Rattle.witness.specs.Walk.{AreGoals, is_marked, unmarked_vertices}
 use Rattle.why.specs.Telling.{Comes, GoesOnlyTo, IsOfKind, IsVisit, LeadsOn, deeper, goes_on}
-use Rattle.why.specs.declared.visit.Kind.TheVariants.{On, Branch}
-use Rattle.why.specs.declared.visit.Kind.{Kind}
+use Rattle.why.specs.declared.visit.Continuation.TheVariants.{On, Branch}
+use Rattle.why.specs.declared.visit.Continuation.{Continuation}
 use Rattle.why.specs.declared.visit.Visit.{Visit}
 use Rattle.why.specs.declared.visit.Way.{Way}
 use Rattle.why.specs.declared.walk.Walk.{Walk}
@@ -46,7 +46,7 @@ abbrev pub IsWalkBy : Game → Evidence → ℕ → Walk → Option Way → Type
 IsWalkBy g e root w next = IsWalk g e root w.told.items w.visits.items w.start w.waiting.items next
 
 -- The kind is that of a visit that comes to the vertex next.
-abbrev pub IsNextKind : Walk → ℕ → Kind → Type 0
+abbrev pub IsNextKind : Walk → ℕ → Continuation → Type 0
 IsNextKind w u kind = (g : Game) (e : Evidence) (root : ℕ) (next : Option Way) → IsWalkBy g e root w next
     → IsOfKind g e w.visits.items (length w.visits.items) u kind
 
@@ -64,7 +64,7 @@ pub record HasTold (g : Game) (e : Evidence) (way : Way) (old new : Walk) (next 
   pub falls : left (length g.vertices) new next < left (length g.vertices) old (Some way)
 
 -- A visit was added, with these marks and this start of the run.
-pub record HasAdded (way : Way) (kind : Kind) (old new : Walk) (marks : List Bool) (begin : ℕ) : Type 0 where
+pub record HasAdded (way : Way) (kind : Continuation) (old new : Walk) (marks : List Bool) (begin : ℕ) : Type 0 where
   pub told : new.told.items ≡ marks
   pub visits : new.visits.items ≡ old.visits.items ++ record { way = way; kind = kind } ∷ []
   pub start : new.start ≡ begin

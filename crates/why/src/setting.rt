@@ -4,17 +4,16 @@ ghost use Rattle.std.specs.Prelude.{◌≡◌, ◌≤◌, ◌++◌, IfOk, false,
 ghost use Rattle.text.specs.Wrote.{Wrote};
 ghost use Rattle.calculus.specs.Canon.{action_text};
 ghost use Rattle.calculus.specs.View.{action_of};
-ghost use Rattle.forms.specs.Normal.{normal_nodes};
-ghost use Rattle.forms.specs.View.{shape_of};
+ghost use Rattle.calculus.specs.Normal.{normal_nodes};
+ghost use Rattle.calculus.specs.NodeView.{shape_of};
 ghost use Rattle.why.specs.Story.{has_branch as has_branch_of, lines_of as lines_of_visit, verdict_text};
 ghost use Rattle.why.specs.Story.{AreHeads, HasMarked, IsCut, cut as cut_of, modality_of, modality_text as modality_text_of};
 
-use crate::visit::{Kind, MOST_COLUMNS, Visit};
+use crate::visit::{Continuation, MOST_COLUMNS, Visit};
 use crate::writer::action_at;
-use calculus::put_action;
+use calculus::form::Normal;
 use calculus::tree::Act;
-use forms::form::Normal;
-use forms::node;
+use calculus::{node, put_action};
 use std::alloc::Global;
 use text::sink::Sink;
 use text::{Memory, WriteFault, put};
@@ -90,11 +89,11 @@ pub fn heads(alloc: Global, visits: &[Visit]) -> Result<Vec<bool>, Memory>
 }
 
 /// Marks the visit to which a run comes back, where it does.
-fn mark_head(kind: Kind, heads: &mut Vec<bool>)
+fn mark_head(kind: Continuation, heads: &mut Vec<bool>)
     ensures long { length heads.new.items ≡ length heads.old.items }
     ensures marks { HasMarked kind heads.old.items heads.new.items }
 {
-    if let Kind::Back(i) = kind {
+    if let Continuation::Back(i) = kind {
         if i < heads.len() {
             heads[i] = true;
         }
@@ -137,7 +136,7 @@ fn lines_of(normal: &Normal, visit: Option<Visit>, head: bool) -> u64
         Some(from) => action_at(normal, from).is_some(),
         None => false,
     };
-    let is_end = !matches!(visit.kind, Kind::On | Kind::Branch);
+    let is_end = !matches!(visit.kind, Continuation::On | Continuation::Branch);
     u64::from(is_step) + u64::from(head) + u64::from(is_end)
 }
 
@@ -145,7 +144,9 @@ fn lines_of(normal: &Normal, visit: Option<Visit>, head: bool) -> u64
 pub fn has_branch(visits: &[Visit]) -> bool
     ensures { result ≡ has_branch_of visits.now }
 {
-    visits.iter().any(|visit| visit.kind == Kind::Branch)
+    visits
+        .iter()
+        .any(|visit| visit.kind == Continuation::Branch)
 }
 
 /// Whether the initial state satisfies the formula, and whether one run shows it or several do.

@@ -16,7 +16,7 @@ pub struct Way {
 
 /// How the play goes on from a vertex to which it has come.
 #[derive(Clone, Copy, Debug, PartialEq, Eq)]
-pub enum Kind {
+pub enum Continuation {
     /// One way: the next visit tells of it.
     On,
     /// In several ways, of which the loser chooses: for each a run begins, two blanks further in.
@@ -33,5 +33,5 @@ pub enum Kind {
 #[derive(Clone, Copy, Debug, PartialEq, Eq)]
 pub struct Visit {
     pub way: Way,
-    pub kind: Kind,
+    pub kind: Continuation,
 }

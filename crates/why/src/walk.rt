@@ -7,7 +7,7 @@ ghost use Rattle.witness.specs.Walk.{is_marked as is_marked_in};
 ghost use Rattle.why.specs.Telling.{IsTelling, deeper as deeper_of, goes_on as is_told_further};
 ghost use Rattle.why.specs.Walk.{AreAll, AreWaysFrom, HasAdded, HasLetWait, HasTold, IsNextKind, IsWalkBy, way_on as way_on_by};
 
-use crate::visit::{Kind, MOST_BLANKS, Visit, Way};
+use crate::visit::{Continuation, MOST_BLANKS, Visit, Way};
 use evidence::evidence::Evidence;
 use game::graph::Game;
 use std::alloc::Global;
@@ -95,7 +95,7 @@ fn tell(game: &Game, evidence: &Evidence, way: Way, walk: &mut Walk) -> Result<O
     evidence.known();
     let told = is_marked(&walk.told, way.vertex);
     match ways_from(game, evidence, way.vertex) {
-        Ways::One(next) if next < FIRST_PLACE => end(way, Kind::Sink, walk),
+        Ways::One(next) if next < FIRST_PLACE => end(way, Continuation::Sink, walk),
         Ways::One(next) => {
             if told {
                 end(way, met(way.vertex, walk), walk)
@@ -152,21 +152,21 @@ fn all_ways<'a>(game: &'a Game, u: u32) -> Ways<'a>
 }
 
 /// Where the play goes on from a vertex, of which it was told further before.
-fn met(u: u32, walk: &Walk) -> Kind
+fn met(u: u32, walk: &Walk) -> Continuation
     requires told { IsTrue (is_marked_in walk.now.told.items u) }
     ensures ends { is_told_further result ≡ false }
     ensures kind { IsNextKind walk.now u result }
 {
     for i in walk.start..walk.visits.len() {
         if walk.visits[i].way.vertex == u {
-            return Kind::Back(i);
+            return Continuation::Back(i);
         }
     }
-    Kind::Told
+    Continuation::Told
 }
 
 /// Tells that the play isn't told further from a vertex.
-fn end(way: Way, kind: Kind, walk: &mut Walk) -> Result<Option<Way>, Memory>
+fn end(way: Way, kind: Continuation, walk: &mut Walk) -> Result<Option<Way>, Memory>
     ensures none { IfOk result (λ next. next ≡ None) }
     ensures added { IfOk result (λ _. HasAdded way kind walk.old walk.new walk.old.told.items (length walk.old.visits.items + 1)) }
     ensures waiting { IfOk result (λ _. walk.new.waiting.items ≡ walk.old.waiting.items) }
@@ -180,11 +180,11 @@ fn end(way: Way, kind: Kind, walk: &mut Walk) -> Result<Option<Way>, Memory>
 fn go_on(way: Way, target: u32, walk: &mut Walk) -> Result<Option<Way>, Memory>
     requires { way.vertex < length walk.old.told.items }
     ensures next { IfOk result (λ next. next ≡ Some (way_on_by way way.blanks target)) }
-    ensures added { IfOk result (λ _. HasAdded way Kind.On walk.old walk.new (slice_set walk.old.told.items way.vertex true) walk.old.start) }
+    ensures added { IfOk result (λ _. HasAdded way Continuation.On walk.old walk.new (slice_set walk.old.told.items way.vertex true) walk.old.start) }
     ensures waiting { IfOk result (λ _. walk.new.waiting.items ≡ walk.old.waiting.items) }
 {
     walk.told[way.vertex as usize] = true;
-    let kind = Kind::On;
+    let kind = Continuation::On;
     walk.visits.push(Visit { way, kind })?;
     Ok(Some(Way {
         from: Some(way.vertex),
@@ -197,11 +197,11 @@ fn go_on(way: Way, target: u32, walk: &mut Walk) -> Result<Option<Way>, Memory>
 fn branch(way: Way, targets: &[u32], walk: &mut Walk) -> Result<Option<Way>, Memory>
     requires { way.vertex < length walk.old.told.items }
     ensures none { IfOk result (λ next. next ≡ None) }
-    ensures added { IfOk result (λ _. HasAdded way Kind.Branch walk.old walk.new (slice_set walk.old.told.items way.vertex true) (length walk.old.visits.items + 1)) }
+    ensures added { IfOk result (λ _. HasAdded way Continuation.Branch walk.old walk.new (slice_set walk.old.told.items way.vertex true) (length walk.old.visits.items + 1)) }
     ensures waiting { IfOk result (λ _. HasLetWait way targets.now walk.old.waiting.items walk.new.waiting.items) }
 {
     walk.told[way.vertex as usize] = true;
-    let kind = Kind::Branch;
+    let kind = Continuation::Branch;
     walk.visits.push(Visit { way, kind })?;
     walk.start = walk.visits.len();
     let_wait(way, targets, &mut walk.waiting)?;

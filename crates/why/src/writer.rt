@@ -4,17 +4,16 @@ ghost use Rattle.std.specs.Prelude.{◌≡◌, ◌<◌, ◌≤◌, ◌++◌, ◌
 ghost use Rattle.systems.specs.Numbered.{IsInside, arrow_of, arrows_from};
 ghost use Rattle.text.specs.Wrote.{Wrote};
 ghost use Rattle.calculus.specs.View.{action_of};
-ghost use Rattle.forms.specs.Normal.{normal_nodes};
-ghost use Rattle.forms.specs.View.{shape_of};
+ghost use Rattle.calculus.specs.Normal.{normal_nodes};
+ghost use Rattle.calculus.specs.NodeView.{shape_of};
 ghost use Rattle.why.specs.Story.{action_at as action_at_of, action_in as action_in_of, blanks_before, by_text, end_text, first_label as first_label_of, head_text, lack_text, modality_at as modality_at_of};
 ghost use Rattle.why.specs.Story.{modality_of, modality_told as modality_told_of, shape_at, sink_text, state_of as state_in, step_before as step_before_of, step_text, rest_text, story_text, way_text};
 
 use crate::setting::{is_head, put_between};
-use crate::visit::{Kind, MOST_BLANKS, Visit, Way};
-use calculus::holds;
+use crate::visit::{Continuation, MOST_BLANKS, Visit, Way};
+use calculus::form::Normal;
 use calculus::tree::Act;
-use forms::form::Normal;
-use forms::node;
+use calculus::{holds, node};
 use lts::{Lts, Transition};
 use text::sink::Sink;
 use text::{Lines, Piece, WriteFault, put, put_lines, put_pieces};
@@ -41,7 +40,7 @@ pub struct Story<'a> {
 }
 
 impl Lines for Story<'_> {
-    ghost use Rattle.forms.specs.Normal.{normal_nodes};
+    ghost use Rattle.calculus.specs.Normal.{normal_nodes};
     ghost use Rattle.why.specs.Story.{text_at};
 
     ghost count = { λ story. story.count };
@@ -180,8 +179,8 @@ fn step_before(normal: &Normal, visits: &[Visit], number: usize) -> Option<u32>
     }
     let visit = visits[number - 1];
     match (visit.kind, visit.way.from) {
-        (Kind::On, Some(from)) if action_at(normal, from).is_some() => Some(from),
-        (Kind::On, _) => step_before(normal, visits, number - 1),
+        (Continuation::On, Some(from)) if action_at(normal, from).is_some() => Some(from),
+        (Continuation::On, _) => step_before(normal, visits, number - 1),
         _ => None,
     }
 }
@@ -277,7 +276,7 @@ fn put_end<W: Sink>(
     story: &Story<'_>,
     v: u32,
     blanks: usize,
-    kind: Kind,
+    kind: Continuation,
     out: &mut W,
 ) -> Result<(), WriteFault>
     ensures { let s = story.now in Wrote (W.taken out.old) (W.taken out.new) result
@@ -287,8 +286,8 @@ fn put_end<W: Sink>(
     let begin = Piece::Bytes(blanks_of(blanks));
     let number = Piece::Number(u64::from(state));
     match kind {
-        Kind::On | Kind::Branch => Ok(()),
-        Kind::Back(_) => put_pieces(
+        Continuation::On | Continuation::Branch => Ok(()),
+        Continuation::Back(_) => put_pieces(
             out,
             &[
                 begin,
@@ -297,8 +296,8 @@ fn put_end<W: Sink>(
                 Piece::Bytes(b"\n"),
             ],
         ),
-        Kind::Told => put_pieces(out, &[begin, number, Piece::Bytes(b": as above\n")]),
-        Kind::Sink => put_stop(story, v, blanks, out),
+        Continuation::Told => put_pieces(out, &[begin, number, Piece::Bytes(b": as above\n")]),
+        Continuation::Sink => put_stop(story, v, blanks, out),
     }
 }
 
@@ -310,7 +309,7 @@ fn put_stop<W: Sink>(
     out: &mut W,
 ) -> Result<(), WriteFault>
     ensures { let s = story.now in Wrote (W.taken out.old) (W.taken out.new) result
-        (end_text s.system.now.system (normal_nodes s.normal.now) v blanks Kind.Sink) }
+        (end_text s.system.now.system (normal_nodes s.normal.now) v blanks Continuation.Sink) }
 {
     let state = state_of(story.normal, v);
     put_pieces(

@@ -12,10 +12,10 @@ use Rattle.systems.specs.System.{Arrow}
 use Rattle.systems.specs.Numbered.{Numbered, arrow_of, system_with}
 use Rattle.systems.specs.declared.system.Transition.{Transition}
 use Rattle.systems.proofs.Rows.{filter-map}
-use Rattle.forms.specs.Nodes.{Node}
+use Rattle.calculus.specs.Nodes.{Node}
 use Rattle.game.specs.Arena.{place, place_in}
 use Rattle.game.specs.Game.{Game, IsNamed}
-use Rattle.forms.specs.Taken.{AreSets, IsSetFor}
+use Rattle.calculus.specs.Taken.{AreSets, IsSetFor}
 use Rattle.laws.proofs.Flags.{cases}
 use Rattle.laws.proofs.Lists.{any_gives, gives_any, gives_range, range_gives}
 use Rattle.laws.proofs.Vertices.{node_in}

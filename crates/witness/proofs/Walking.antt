@@ -9,8 +9,8 @@ use Rattle.systems.specs.Path.{IsPath}
 use Rattle.game.specs.declared.player.Player.{Player}
 use Rattle.game.specs.declared.player.Player.TheVariants.{Even, Odd}
 use Rattle.game.specs.Game.{Game, Vertex, vertex}
-use Rattle.progress.proofs.Lists.{contains_first, contains_none}
-use Rattle.progress.proofs.NotBoth.{path_on}
+use Rattle.measures.proofs.Lists.{contains_first, contains_none}
+use Rattle.measures.proofs.NotBoth.{path_on}
 use Rattle.laws.proofs.Lists.{only_in}
 use Rattle.evidence.specs.Evidence.{Entry, Evidence, IsGood, entry_at}
 use Rattle.evidence.specs.Witness.{Goes, AreReached}

@@ -3,7 +3,7 @@ use Rattle.std.specs.Prelude.{◌≡◌, ℕ, ◌<◌, Bool, List, length, Some,
 use Rattle.std.specs.List.{list_any, range_with_len}
 use Rattle.systems.specs.System.{Arrow}
 use Rattle.systems.specs.declared.system.Transition.{Transition}
-use Rattle.forms.specs.Nodes.{Node}
+use Rattle.calculus.specs.Nodes.{Node}
 use Rattle.game.specs.Game.{Game}
 use Rattle.evidence.specs.Evidence.{Evidence}
 use Rattle.evidence.specs.Witness.{is_taken_at}

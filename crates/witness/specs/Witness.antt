@@ -3,7 +3,7 @@ use Rattle.std.specs.Prelude.{◌≡◌, ℕ, ◌↔◌, ◌⊎◌, Bool, List, 
 use Rattle.systems.specs.System.{System, IsSystem}
 use Rattle.calculus.specs.Tree.{Formula}
 use Rattle.calculus.specs.Meaning.{Satisfies}
-use Rattle.forms.specs.Nodes.{Node}
+use Rattle.calculus.specs.Nodes.{Node}
 use Rattle.game.specs.Arena.{arena, place}
 use Rattle.game.specs.Game.{Game}
 use Rattle.evidence.specs.Best.{IsEvenOf, IsOddOf}

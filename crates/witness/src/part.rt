@@ -4,11 +4,11 @@ ghost use Rattle.std.specs.Prelude.{◌≡◌, ◌<◌, false, ℕ, List, Some, 
 ghost use Rattle.systems.specs.Numbered.{IsInside, arrow_of, system_with};
 ghost use Rattle.calculus.specs.Tree.{Formula};
 ghost use Rattle.calculus.specs.Admitted.{IsAdmitted};
-ghost use Rattle.forms.specs.Tree.{normal_form};
-ghost use Rattle.forms.specs.Nodes.{Node};
-ghost use Rattle.forms.specs.Normal.{normal_nodes};
+ghost use Rattle.calculus.specs.NormalTree.{normal_form};
+ghost use Rattle.calculus.specs.Nodes.{Node};
+ghost use Rattle.calculus.specs.Normal.{normal_nodes};
 ghost use Rattle.game.specs.Arena.{arena};
-ghost use Rattle.forms.specs.Taken.{AreSets, IsSetFor};
+ghost use Rattle.calculus.specs.Taken.{AreSets, IsSetFor};
 ghost use Rattle.laws.specs.Admissible.{IsNodes};
 ghost use Rattle.evidence.specs.Evidence.{IsGood, entry_at, has as has_entry};
 ghost use Rattle.evidence.specs.Witness.{is_one_player as is_same_player, is_taken as is_taken_from, moves_to as moves_to_target, witness as whole_witness};
@@ -17,10 +17,10 @@ ghost use Rattle.witness.specs.Taken.{IsBetweenStates, is_taken_by_some};
 ghost use Rattle.witness.specs.Witness.{HasTaken, IsWitness, root_of};
 
 use crate::walk::reached;
+use calculus::form::Normal;
+use calculus::label_sets::label_sets;
+use calculus::node::Kind;
 use evidence::evidence::Evidence;
-use forms::form::Normal;
-use forms::labels::label_sets;
-use forms::node::Kind;
 use game::graph::Game;
 use game::player::Player;
 use lts::{Lts, Transition};
@@ -179,6 +179,7 @@ pub fn witness(
         → IsWitness system.now.system f (system_with system.now part.items)) }
 {
     evidence.known();
+    // For the proof: the clauses of this call say what the system has.
     let _states = system.states();
     let root = root_vertex(system, normal, game);
     let marks = reached(alloc, game, evidence, root)?;

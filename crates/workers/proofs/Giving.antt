@@ -4,7 +4,7 @@ use Rattle.std.proofs.lemmas.List.{append-nil}
 use Rattle.std.proofs.lemmas.List.Elements.{Contains-append_left, Contains-append_right}
 use Rattle.crossbeam_deque.specs.Handles.{worker_view}
 use Rattle.crossbeam_deque.specs.declared.handles.Worker.{Worker}
-use Rattle.progress.proofs.Common.{get_or_default}
+use Rattle.measures.proofs.Common.{get_or_default}
 use Rattle.workers.specs.Jobs.{Gave, more_given}
 use Rattle.workers.specs.Turns.{first_in_block}
 use Rattle.workers.specs.declared.jobs.Given.{Given}

@@ -1,7 +1,7 @@
 -- What crosses to a worker's thread.
 use denote.Param.Send.{IsSend, sendable}
 use Rattle.std.proofs.Crossing.{crosses}
-use Rattle.progress.specs.contracts.measure.Measure as Measure
+use Rattle.measures.specs.contracts.measure.Measure as Measure
 use Rattle.liftcore.specs.contracts.turn.Turn as Turn
 
 measure_send : IsSend Measure.the_row

@@ -7,7 +7,7 @@ use Rattle.std.proofs.lemmas.List.{append-nil, length-take-le}
 use Rattle.std.proofs.lemmas.List.Elements.{filter-append}
 use Rattle.std.proofs.Math.Seq.{take-suc, take-suc-set}
 use Rattle.game.specs.Game.{Game}
-use Rattle.progress.specs.Measure.{Measure}
+use Rattle.measures.specs.Measure.{Measure}
 use Rattle.tables.specs.Turns.{reads}
 use Rattle.tables.specs.declared.access.Access.{Access}
 use Rattle.tables.specs.declared.access.Access.TheVariants.{Read}

@@ -4,8 +4,8 @@ use Rattle.std.specs.Borrow.{Bor}
 use Rattle.calculus.specs.Meaning.{MarksOf}
 use Rattle.game.specs.Game.{Game}
 use Rattle.game.specs.Wins.{Wins}
-use Rattle.progress.specs.Lifting.{height}
-use Rattle.progress.specs.declared.rank.TheConstants.{RANK_LIMIT}
+use Rattle.measures.specs.Lifting.{height}
+use Rattle.measures.specs.declared.rank.TheConstants.{RANK_LIMIT}
 use Rattle.tables.specs.declared.error.TableError.TheVariants as table
 use Rattle.workers.specs.declared.error.SolveError.TheVariants as solve
 use Rattle.workers.specs.declared.error.TeamError.{TeamError}

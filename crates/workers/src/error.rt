@@ -18,8 +18,7 @@ impl From<Memory> for SolveError {
 
     ghost from_gives = { λ _ e. e ≡ errors.Memory };
 
-    fn from(error: Memory) -> Self {
-        let Memory = error;
+    fn from(_: Memory) -> Self {
         SolveError::Memory
     }
 }

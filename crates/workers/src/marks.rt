@@ -40,7 +40,7 @@ pub(crate) trait Pending {
 /// and taken away before its successors are read; a block's is taken away before its vertices are looked at. So there are no more jobs
 /// than blocks, and whoever finds a mark knows that what he raised is still to be read.
 #[derive(Drop)]
-pub(crate) struct Marks {
+pub(crate) struct JobMarks {
     pending: Vec<AtomicBool>,
     waiting: Vec<AtomicBool>,
 }
@@ -69,20 +69,20 @@ fn unmark(marks: &[AtomicBool], place: u32) {
     }
 }
 
-impl Marks {
+impl JobMarks {
     /// All of so many vertices are pending, and no block is a job.
     ///
     /// # Errors
     /// Want of memory, and nothing else.
     pub(crate) fn new(alloc: Global, vertices: u32) -> Result<Self, AllocError> {
-        Ok(Marks {
+        Ok(JobMarks {
             pending: so_many(alloc, vertices as usize, true)?,
             waiting: so_many(alloc, vertices.div_ceil(BLOCK) as usize, false)?,
         })
     }
 }
 
-impl Pending for Marks {
+impl Pending for JobMarks {
     ghost was_pending = { λ marks v. Unit {0} };
 
     fn set(&self, v: u32) -> bool {

@@ -3,7 +3,7 @@
 ghost use Rattle.std.specs.Prelude.{◌≡◌, ◌<◌, ◌⊎◌, ℕ, IfOk, length, max};
 ghost use Rattle.std.specs.Arc.{arc_value};
 ghost use Rattle.std.specs.Fork.{AcceptsEach, ChangesEach};
-ghost use Rattle.progress.specs.Progress.{IsLeastTable};
+ghost use Rattle.measures.specs.Progress.{IsLeastTable};
 ghost use Rattle.workers.specs.Floor.{IsOneGame};
 ghost use Rattle.workers.specs.Jobs.{WasFilled};
 ghost use Rattle.workers.specs.Turns.{HasWorked, own_vertices};
@@ -12,14 +12,14 @@ use crate::error::SolveError;
 use crate::floor::Floor;
 use crate::gate::Gate;
 use crate::jobs::{Own, WorkerState, states};
-use crate::marks::Marks;
+use crate::marks::JobMarks;
 use crate::rest::Rest;
 use crate::watched::Watched;
 use crate::worker::work;
 use game::graph::Game;
 use game::name::GameName;
+use game::observer::{Observer, Silent};
 use game::predecessors::Predecessors;
-use measures::observer::{Observer, Silent};
 use measures::settle::solve_one_from;
 use measures::table::{Settled, opening};
 use std::alloc::{AllocError, Global};
@@ -67,7 +67,7 @@ fn run<
         (B.did board.now first last) (λ jobs. Unit {0}))) }
 {
     let (mut states, others) = states::<K>(alloc, game, workers)?;
-    let pending = Marks::new(alloc, game.vertices())?;
+    let pending = JobMarks::new(alloc, game.vertices())?;
     let (others, marks, rest) = (others.as_slice(), &pending, &Rest::new(workers));
     for_each_worker(
         rt,

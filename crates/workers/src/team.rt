@@ -5,9 +5,9 @@ ghost use Rattle.std.specs.Arc.{arc_value};
 ghost use Rattle.calculus.specs.Meaning.{MarksOf};
 ghost use Rattle.game.specs.Game.{Game};
 ghost use Rattle.game.specs.Wins.{Wins};
-ghost use Rattle.progress.specs.Lifting.{height};
-ghost use Rattle.progress.specs.Progress.{IsLeastTable};
-ghost use Rattle.progress.specs.declared.rank.TheConstants.{RANK_LIMIT};
+ghost use Rattle.measures.specs.Lifting.{height};
+ghost use Rattle.measures.specs.Progress.{IsLeastTable};
+ghost use Rattle.measures.specs.declared.rank.TheConstants.{RANK_LIMIT};
 ghost use Rattle.workers.specs.Team.{IsMemory, IsTeamRefusal, IsTooGreat, MayBeRaised};
 
 use crate::error::TeamError;
@@ -16,8 +16,8 @@ use crate::solving::solve_watched;
 use crate::watched::Watched;
 use game::graph::Game;
 use game::name::GameName;
+use game::observer::Observer;
 use measures::measure::Measure;
-use measures::observer::Observer;
 use measures::rank::top_rank;
 use measures::table::Settled;
 use std::alloc::Global;
@@ -171,7 +171,7 @@ fn solve_over<B: Board + Drop + Sync, G: Gate + Sync, O: Observer + Sync, R: Thr
 }
 
 // Raises each vertex without a mark to top. Where the board has no seat nothing is raised.
-#[tactic(auto, using(progress::proofs::Lost::lost_below))]
+#[tactic(auto, using(measures::proofs::Lost::lost_below))]
 fn raise_lost<B: Board>(game: &Game, board: &B, won: &[bool])
     requires board { B.game board.now ≡ game.now }
     requires won { MarksOf (length game.now.vertices) won.now (Wins game.now) }

@@ -3,7 +3,7 @@
 ghost use Rattle.std.specs.Prelude.{◌≡◌};
 
 use crate::gate::Gate;
-use measures::observer::{Observer, Stage};
+use game::observer::{Observer, Stage};
 use std::sync::atomic::{AtomicU64, Ordering};
 
 /// How many turns a worker takes from one telling to the next.
@@ -11,18 +11,18 @@ const TURNS_APART: u64 = 4096;
 
 /// A worker's number, how many turns it took, and in how many of them a measure rose.
 #[derive(Clone, Copy)]
-pub(crate) struct Tally {
+pub(crate) struct TurnCounts {
     pub(crate) worker: usize,
     turns: u64,
     rises: u64,
 }
 
-impl Tally {
+impl TurnCounts {
     /// No turn yet of the worker of this number.
     pub(crate) fn new(worker: usize) -> Self
         ensures { result.worker ≡ worker }
     {
-        Tally {
+        TurnCounts {
             worker,
             turns: 0,
             rises: 0,
@@ -68,7 +68,7 @@ impl<'a, G: Gate, O: Observer> Watched<'a, G, O> {
     }
 
     /// A worker is about to take a turn at a vertex.
-    pub(crate) fn before(&self, tally: &mut Tally, v: u32)
+    pub(crate) fn before(&self, tally: &mut TurnCounts, v: u32)
         ensures { tally.new.worker ≡ tally.old.worker }
     {
         tally.turns = tally.turns.wrapping_add(1);
@@ -80,7 +80,7 @@ impl<'a, G: Gate, O: Observer> Watched<'a, G, O> {
     }
 
     /// A worker has taken its last turn.
-    pub(crate) fn ended(&self, tally: Tally) {
+    pub(crate) fn ended(&self, tally: TurnCounts) {
         self.observer.sees(Stage::Worked {
             worker: tally.worker,
             turns: tally.turns,

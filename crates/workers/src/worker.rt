@@ -10,12 +10,12 @@ use crate::floor::Floor;
 use crate::gate::Gate;
 use crate::jobs::{Own, WorkerState, find, give};
 use crate::marks::{BLOCK, Pending, block_of};
-use crate::watched::Tally;
+use crate::watched::TurnCounts;
 use game::graph::Game;
 use game::name::GameName;
+use game::observer::Observer;
 use game::predecessors::Predecessors;
 use liftcore::turn::Turn;
-use measures::observer::Observer;
 use std::sync::Wait;
 use tables::board::Board;
 
@@ -66,7 +66,7 @@ fn turn_at<K: GameName, B: Board, G: Gate, O: Observer, M: Pending>(
     own: &mut Own<K>,
     turn: &mut Turn,
     seat: &mut B::Seat,
-    tally: &mut Tally,
+    tally: &mut TurnCounts,
     v: u32,
 ) -> bool
     requires one { IsOneGame K.game floor.now.game.now (B.game floor.now.board.now) floor.now.predecessors.now }
@@ -93,7 +93,7 @@ fn first_turns<K: GameName, B: Board, G: Gate, O: Observer, M: Pending>(
     own: &mut Own<K>,
     turn: &mut Turn,
     seat: &mut B::Seat,
-    tally: &mut Tally,
+    tally: &mut TurnCounts,
 ) -> bool
     requires one { IsOneGame K.game floor.now.game.now (B.game floor.now.board.now) floor.now.predecessors.now }
     requires seat { B.fits floor.now.board.now seat.old }
@@ -121,7 +121,7 @@ fn block_turns<K: GameName, B: Board, G: Gate, O: Observer, M: Pending>(
     own: &mut Own<K>,
     turn: &mut Turn,
     seat: &mut B::Seat,
-    tally: &mut Tally,
+    tally: &mut TurnCounts,
     block: u32,
 ) -> bool
     requires one { IsOneGame K.game floor.now.game.now (B.game floor.now.board.now) floor.now.predecessors.now }
@@ -166,7 +166,7 @@ fn take_turns<K: GameName, B: Board, G: Gate, O: Observer, M: Pending, R: Wait>(
     own: &mut Own<K>,
     turn: &mut Turn,
     seat: &mut B::Seat,
-    tally: &mut Tally,
+    tally: &mut TurnCounts,
 )
     requires one { IsOneGame K.game floor.now.game.now (B.game floor.now.board.now) floor.now.predecessors.now }
     requires seat { B.fits floor.now.board.now seat.old }
@@ -208,7 +208,7 @@ pub(crate) fn work<K: GameName, B: Board, G: Gate, O: Observer, M: Pending, R: W
     floor.rest.begin();
     match floor.board.seat() {
         Ok(mut seat) => {
-            let mut tally = Tally::new(number);
+            let mut tally = TurnCounts::new(number);
             let WorkerState { own, turn } = state;
             take_turns(rt, floor, own, turn, &mut seat, &mut tally);
             floor.board.last(&mut seat);

@@ -1,6 +1,6 @@
 use Rattle.std.proofs.Common.{◌≡◌, ◌∙◌, ◌∷◌, ◌++◌, ap, decimal, rules}
 use Rattle.systems.specs.Numbered.{label_at}
-use Rattle.forms.specs.View.{nodes_of}
+use Rattle.calculus.specs.NodeView.{nodes_of}
 use Rattle.text.proofs.Writing.{Wrote-after, Wrote-as}
 use Rattle.commands.specs.Labels.{is_taken, label_end}
 use Rattle.commands.proofs.Ranked.{taken_by}

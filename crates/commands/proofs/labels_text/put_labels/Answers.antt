@@ -1,4 +1,4 @@
-use Rattle.forms.specs.View.{nodes_of}
+use Rattle.calculus.specs.NodeView.{nodes_of}
 use Rattle.text.proofs.Writing.{Wrote-as}
 use Rattle.commands.proofs.Ranked.{all_lines}
 use Rattle.commands.proofs.labels_text.put_labels.Goals as goal

@@ -15,4 +15,4 @@ returns-clause-answers g c = λ text spelled.
     let none : is_some c.args.request.now.evidence ≡ false = cc in
     subst (λ b. AnswersSolve board text (solve_writers b even even odd odd old new) c.solve_and_write.result) (sym none)
     (beside_report board text even odd old new c.solve_and_write.result
-    (c.solve_and_write.ensures.answers text (subst (IsGameOf text) (sym c.in-Ok.ensures.ok) spelled)))
+    (c.solve_and_write.ensures.answers text (subst (IsGameOf text) (sym c.in_ok-game.ensures.ok) spelled)))

@@ -1,9 +1,16 @@
+use Rattle.std.proofs.Common.{rules}
 use Rattle.requests.proofs.Caused.{none_true}
+use Rattle.requests.proofs.Readings.{was_ok, was_turned}
 use Rattle.commands.proofs.Caused.{game_told, more_caused}
 use Rattle.commands.proofs.verify_text.verify_both_text.Goals as goal
 
-pub returns-in-Ok-clause-cause : goal.returns-in-Ok-clause-cause
-returns-in-Ok-clause-cause g c = more_caused _ _ _ _ c.verify_both_for.result (none_true _) (λ x. x) c.verify_both_for.ensures.cause
+pub returns-clause-verifies : goal.returns-clause-verifies
+returns-clause-verifies g c = let read = rw (was_ok _ _ c.in_ok-game.ensures.cases) at c.read_game.ensures in search rules
 
-pub returns-in-Err-clause-cause : goal.returns-in-Err-clause-cause
-returns-in-Err-clause-cause g c = game_told _ _ c.in-Err.error c.in-Err.ensures.cause
+pub returns-clause-cause : goal.returns-clause-cause
+returns-clause-cause g c = more_caused _ _ _ _ c.verify_both_for.result (none_true _) (λ x. x) c.verify_both_for.ensures.cause
+
+pub returns-in_err-game-clause-cause : goal.returns-in_err-game-clause-cause
+returns-in_err-game-clause-cause g c =
+    let t = was_turned _ _ _ _ c.in_err-game.ensures.cases c.from_residual.ensures.1 in
+    rw t.2 (game_told _ _ t.0 (rw t.1 at c.read_game.ensures.cause))

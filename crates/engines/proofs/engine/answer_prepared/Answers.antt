@@ -19,4 +19,4 @@ pub returns-in-Ok-clause-cause : goal.returns-in-Ok-clause-cause
 returns-in-Ok-clause-cause g c = written_caused c.put_wanted-wrote.result c.answer.result _ _ _ c.answer.ensures
 
 pub returns-in-Err-clause-cause : goal.returns-in-Err-clause-cause
-returns-in-Err-clause-cause g c = unprepared_caused c.args.found.now c.args.wanted _ _ c.in-Err.error (rw c.in-Err.is at c.requires.refusal)
+returns-in-Err-clause-cause g c = unprepared_caused c.args.wanted _ _ c.in-Err.error (rw c.in-Err.is at c.requires.refusal)

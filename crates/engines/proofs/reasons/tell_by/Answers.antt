@@ -1,5 +1,5 @@
-use Rattle.std.proofs.Common.{refl, subst}
-use Rattle.forms.specs.Normal.{normal_nodes}
+use Rattle.std.proofs.Common.{subst}
+use Rattle.calculus.specs.Normal.{normal_nodes}
 use Rattle.why.specs.Story.{AreHeads, IsCut}
 use Rattle.why.specs.Telling.{IsTelling}
 use Rattle.engines.specs.Reasons.{most_visits}
@@ -9,11 +9,10 @@ pub returns : goal.returns
 returns c =
     let g = c.args.game.now in
     let e = c.args.evidence.now.evidence in
-    let nodes = normal_nodes c.args.normal in
+    let nodes = normal_nodes c.args.form.now in
     let heads = c.in_ok-heads.heads.items in
     let limit = c.args.limit in
     record {
-      nodes = refl;
       most = c.most_visits-most.ensures.many;
       telling = subst (λ v. IsTelling g e v (most_visits limit) c.in_ok-visits.visits.items) c.root_vertex-root.ensures.root
           (subst (λ n. IsTelling g e c.root_vertex-root.result n c.in_ok-visits.visits.items) c.most_visits-most.ensures.many c.in_ok-visits.ensures);

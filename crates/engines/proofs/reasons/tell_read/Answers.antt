@@ -1,3 +1,5 @@
+use Rattle.text.proofs.PassedOn.{passed_on}
+use Rattle.engines.proofs.Orders.{refused_on}
 use Rattle.std.proofs.Common.{Some, subst, sym}
 use Rattle.calculus.specs.Closed.{closed_formula}
 use Rattle.requests.specs.declared.texts.Texts.{Texts}
@@ -8,23 +10,24 @@ use Rattle.requests.specs.Check.{ByGame}
 use Rattle.requests.proofs.Caused.{beyond_caused}
 use Rattle.engines.proofs.reasons.tell_read.Goals as goal
 
-pub returns-in-Ok-clause-tells : goal.returns-in-Ok-clause-tells
-returns-in-Ok-clause-tells g c = λ first second spelled.
+pub returns-clause-tells : goal.returns-clause-tells
+returns-clause-tells g c = λ first second spelled.
     let options = c.args.request.now.options in
-    reasons_by_way _ options.priorities _ (Some options.board) c.args.request.now.limit first second _ _ c.tell_found.result c.in-Ok.ensures.way
+    reasons_by_way _ options.priorities _ (Some options.board) c.args.request.now.limit first second _ _ c.tell_found.result c.in_ok-found.ensures.way
     (c.tell_found.ensures.tells first second (subst (λ (t : Texts). AreSpelled first second t.system.system (closed_formula t.formula))
-    (sym c.in-Ok.ensures.texts) spelled))
+    (sym c.in_ok-found.ensures.texts) spelled))
 
-pub returns-in-Err-clause-tells : goal.returns-in-Err-clause-tells
-returns-in-Err-clause-tells g c = λ first second spelled.
+pub returns-in_err-found-clause-tells : goal.returns-in_err-found-clause-tells
+returns-in_err-found-clause-tells g c = λ first second spelled.
     let options = c.args.request.now.options in
     let l = c.args.texts.system.system in
     let f = closed_formula c.args.texts.formula in
-    refused_kept options.priorities (Some options.board) c.args.request.now.limit first second _ c.in-Err.error
-    (λ writers kept. beyond_of options.priorities (Some options.board) first second writers l f c.in-Err.error spelled c.in-Err.ensures.refusal kept)
+    refused_on c.from_residual.result c.in_err-found.field-0.0 _ _ c.from_residual.ensures.1
+    (refused_kept options.priorities (Some options.board) c.args.request.now.limit first second _ c.in_err-found.field-0.0
+    (λ writers kept. beyond_of options.priorities (Some options.board) first second writers l f c.in_err-found.field-0.0 spelled c.in_err-found.ensures.refusal kept))
 
-pub returns-in-Err-clause-cause : goal.returns-in-Err-clause-cause
-returns-in-Err-clause-cause g c =
-    let options = c.args.request.now.options in
+pub returns-in_err-found-clause-cause : goal.returns-in_err-found-clause-cause
+returns-in_err-found-clause-cause g c = passed_on c.from_residual.result c.in_err-found.field-0.0 _ c.from_residual.ensures.1
+    (let options = c.args.request.now.options in
     beyond_caused (ByGame options.priorities (Some options.board)) c.args.texts.system.system
-    (closed_formula c.args.texts.formula) _ _ c.in-Err.error c.in-Err.ensures.refusal
+    (closed_formula c.args.texts.formula) _ _ c.in_err-found.field-0.0 c.in_err-found.ensures.refusal)

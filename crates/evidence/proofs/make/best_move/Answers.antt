@@ -1,6 +1,6 @@
 use Rattle.std.proofs.Common.{◌∙◌}
 use Rattle.game.specs.Game.{Vertex}
-use Rattle.progress.proofs.Bests.{vertex_tells}
+use Rattle.measures.proofs.Bests.{vertex_tells}
 use Rattle.evidence.proofs.make.best_move.Goals as goal
 
 pub returns-in-Even : goal.returns-in-Even

@@ -1,7 +1,7 @@
 use Rattle.std.proofs.Common.{◌+◌, arith, refl, subst, sym, ◌∙◌}
 use Rattle.game.specs.Game.{Game}
 use Rattle.game.proofs.Greatest.{greatest_limit}
-use Rattle.progress.specs.Progress.{IsLeastTable, value_at}
+use Rattle.measures.specs.Progress.{IsLeastTable, value_at}
 use Rattle.evidence.specs.View.{Entries}
 use Rattle.evidence.proofs.Making.{IsMade, made_even, made_left, made_more, made_none, rank_long}
 use Rattle.evidence.proofs.make.entries_of.Goals as goal

@@ -1,7 +1,7 @@
 use Rattle.std.proofs.Common.{◌+◌, ◌/◌, ap, arith, sym, ◌∙◌}
 use Rattle.game.specs.Game.{greatest}
 use Rattle.game.proofs.Greatest.{greatest_limit}
-use Rattle.progress.proofs.Components.{odd_down_long}
+use Rattle.measures.proofs.Components.{odd_down_long}
 use Rattle.evidence.specs.Evidence.{counted}
 use Rattle.evidence.proofs.Shifted.{even_down_long}
 use Rattle.evidence.proofs.reader.width.Goals as goal

@@ -1,5 +1,5 @@
 use Rattle.std.proofs.Common.{◌≡◌, Some, arith, refl, slice_index, sym, ◌∙◌, true≢false}
-use Rattle.progress.proofs.Places.{contained_from, place_contained}
+use Rattle.measures.proofs.Places.{contained_from, place_contained}
 use Rattle.evidence.specs.Evidence.{Descends, Entry, entry_at}
 use Rattle.evidence.proofs.verify.are_below.Goals as goal
 

@@ -1,5 +1,5 @@
 use Rattle.std.proofs.Common.{IsTrue, arith, refl}
-use Rattle.progress.proofs.Places.{contained_from}
+use Rattle.measures.proofs.Places.{contained_from}
 use Rattle.evidence.specs.Evidence.{has}
 use Rattle.evidence.proofs.verify.are_inside.Goals as goal
 

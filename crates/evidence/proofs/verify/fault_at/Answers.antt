@@ -1,4 +1,4 @@
-use Rattle.progress.proofs.Bests.{vertex_here}
+use Rattle.measures.proofs.Bests.{vertex_here}
 use Rattle.evidence.proofs.Checked.{fault_here}
 use Rattle.evidence.proofs.verify.fault_at.Goals as goal
 

@@ -1,6 +1,6 @@
 use Rattle.text.specs.Pieces.{piece_text}
 use Rattle.text.proofs.Writing.{Wrote-after, Wrote-as, Wrote-err, WroteFront-after, WroteFront-more}
-use Rattle.progress.specs.MeasureText.{counts_text}
+use Rattle.measures.specs.MeasureText.{counts_text}
 use Rattle.evidence.proofs.Written.{front, line_is}
 use Rattle.evidence.proofs.writer.put_entry.Goals as goal
 

@@ -1,4 +1,4 @@
-use Rattle.progress.proofs.Dual.{dual_wins, wins_dual}
+use Rattle.measures.proofs.Dual.{dual_wins, wins_dual}
 use Rattle.game.specs.declared.player.Player.TheVariants.{Odd}
 use Rattle.laws.proofs.games.dual_wins.Goals as goal
 

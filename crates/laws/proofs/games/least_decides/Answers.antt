@@ -1,4 +1,4 @@
-use Rattle.progress.proofs.LeastDecides.{least_decides}
+use Rattle.measures.proofs.LeastDecides.{least_decides}
 use Rattle.laws.proofs.games.least_decides.Goals as goal
 
 abbrev pub returns : goal.returns

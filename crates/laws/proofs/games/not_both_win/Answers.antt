@@ -1,4 +1,4 @@
-use Rattle.progress.proofs.NotBoth.{not_both_win}
+use Rattle.measures.proofs.NotBoth.{not_both_win}
 use Rattle.laws.proofs.games.not_both_win.Goals as goal
 
 abbrev pub returns : goal.returns

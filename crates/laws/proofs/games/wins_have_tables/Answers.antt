@@ -1,4 +1,4 @@
-use Rattle.progress.proofs.StrategyTable.{wins_table}
+use Rattle.measures.proofs.StrategyTable.{wins_table}
 use Rattle.laws.proofs.games.wins_have_tables.Goals as goal
 
 abbrev pub returns : goal.returns

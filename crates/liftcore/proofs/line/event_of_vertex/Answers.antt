@@ -1,6 +1,6 @@
 use Rattle.std.proofs.Common.{subst, sym, ◌∙◌}
 use Rattle.liftcore.specs.Begun.{IsBegunLine}
-use Rattle.liftcore.specs.declared.line.Part.TheVariants.{Vertex}
+use Rattle.liftcore.specs.declared.line.LinePart.TheVariants.{Vertex}
 use Rattle.liftcore.proofs.Bytewise.{vertex_absent, vertex_event}
 use Rattle.liftcore.proofs.line.event_of_vertex.Goals as goal
 

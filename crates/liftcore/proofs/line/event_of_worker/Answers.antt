@@ -1,7 +1,7 @@
 use Rattle.std.proofs.Common.{◌≡◌, true, false, subst, sym, ◌∙◌}
 use Rattle.std.specs.Str.{bytes_eq}
 use Rattle.liftcore.specs.Begun.{IsBegunLine}
-use Rattle.liftcore.specs.declared.line.Part.TheVariants.{Worker}
+use Rattle.liftcore.specs.declared.line.LinePart.TheVariants.{Worker}
 use Rattle.liftcore.proofs.Bytewise.{worker_absent, worker_event, worker_other}
 use Rattle.liftcore.proofs.line.event_of_worker.Goals as goal
 

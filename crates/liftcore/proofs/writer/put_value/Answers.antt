@@ -1,6 +1,6 @@
 use Rattle.std.proofs.Common.{codes, decimal}
 use Rattle.text.proofs.Writing.{Wrote-after, Wrote-err, WroteFront-after, WroteFront-more}
-use Rattle.progress.specs.MeasureText.{measure_text}
+use Rattle.measures.specs.MeasureText.{measure_text}
 use Rattle.liftcore.proofs.writer.put_value.Goals as goal
 
 pub returns-in_err-put_number : goal.returns-in_err-put_number

@@ -1,6 +1,6 @@
 use Rattle.std.proofs.Common.{◌<◌, ◌∙◌, ℕ, length, subst, sym}
 use Rattle.text.specs.Taken.{Adds}
-use Rattle.progress.specs.Measure.{Measure}
+use Rattle.measures.specs.Measure.{Measure}
 use Rattle.text.proofs.Writing.{HasWritten, HasWritten-all, HasWritten-more, HasWritten-stops, Wrote-err}
 use Rattle.text.specs.Wrote.{WroteFront}
 use Rattle.liftcore.specs.Replay.{value_line}

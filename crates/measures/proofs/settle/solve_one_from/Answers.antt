@@ -1,4 +1,4 @@
-use Rattle.progress.proofs.Common.{subst, sym, Game, IsProgress}
+use Rattle.measures.proofs.Common.{subst, sym, Game, IsProgress}
 use Rattle.measures.proofs.settle.solve_one_from.Goals as goal
 
 pub into_settled-requires : goal.into_settled-requires

@@ -1,16 +1,16 @@
 use Rattle.std.proofs.Common.{◌≡◌, ◌≤◌, ◌<◌, ◌++◌, ℕ, true, List, [], Option, Some, None, MatchOption, is_some, length, vec_len, subst, sym, ap, ◌∙◌, arith}
 use Rattle.calculus.specs.View.{formula_of}
 use Rattle.calculus.specs.Tree.{Formula}
-use Rattle.forms.specs.Tree.{node_count, norm, normal_form}
-use Rattle.forms.specs.Nodes.{nodes_by, greatest_node_priority}
-use Rattle.forms.specs.Rules.{rule_of, nodes_with}
-use Rattle.forms.specs.Form.{IsForm}
-use Rattle.forms.specs.View.{nodes_of}
+use Rattle.calculus.specs.NormalTree.{node_count, norm, normal_form}
+use Rattle.calculus.specs.Nodes.{nodes_by, greatest_node_priority}
+use Rattle.calculus.specs.Rules.{rule_of, nodes_with}
+use Rattle.calculus.specs.Form.{IsForm}
+use Rattle.calculus.specs.NodeView.{nodes_of}
 use Rattle.normal.specs.Surveys.{noted_rule}
 use Rattle.normal.specs.Writes.{Writes}
-use Rattle.forms.specs.declared.node as declared
+use Rattle.calculus.specs.declared.node as declared
 use Rattle.normal.specs.declared.write.Preorder.{Preorder}
-use Rattle.forms.specs.declared.priorities.Priorities.{Priorities}
+use Rattle.calculus.specs.declared.priorities.Priorities.{Priorities}
 use Rattle.normal.proofs.Counts.{norm_size}
 use Rattle.normal.proofs.Numbers.{is_form}
 use Rattle.normal.proofs.make.normal_with.Goals as goal

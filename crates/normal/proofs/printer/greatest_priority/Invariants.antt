@@ -1,6 +1,6 @@
 use Rattle.std.proofs.Common.{◌≡◌, max, drop}
-use Rattle.forms.specs.Nodes.{greatest_node_priority}
-use Rattle.forms.specs.View.{nodes_of}
+use Rattle.calculus.specs.Nodes.{greatest_node_priority}
+use Rattle.calculus.specs.NodeView.{nodes_of}
 use Rattle.normal.proofs.printer.greatest_priority.Given as goal
 
 abbrev pub invariant-loop-node : goal.invariant-loop-node

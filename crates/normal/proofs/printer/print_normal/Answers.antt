@@ -1,8 +1,8 @@
 use Rattle.std.proofs.Common.{◌≡◌, ◌++◌}
 use Rattle.text.proofs.Writing.{Wrote-as, Wrote-err, Wrote-after, WroteFront-more}
 use Rattle.normal.specs.NormalText.{summary_line, node_lines, normal_text}
-use Rattle.forms.specs.View.{nodes_of}
-use Rattle.forms.specs.Normal.{normal_nodes, normal_depth}
+use Rattle.calculus.specs.NodeView.{nodes_of}
+use Rattle.calculus.specs.Normal.{normal_nodes, normal_depth}
 use Rattle.normal.proofs.printer.print_normal.Goals as goal
 
 pub returns-in_err-put_summary : goal.returns-in_err-put_summary

@@ -1,5 +1,5 @@
 use Rattle.text.proofs.Writing.{Wrote-as, Wrote-err, Wrote-after, WroteFront-more}
-use Rattle.forms.specs.View.{node_of}
+use Rattle.calculus.specs.NodeView.{node_of}
 use Rattle.normal.proofs.Printing.{line_is}
 use Rattle.normal.proofs.printer.put_node.Goals as goal
 

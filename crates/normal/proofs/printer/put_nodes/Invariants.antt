@@ -1,7 +1,7 @@
 use Rattle.std.proofs.Common.{drop}
 use Rattle.text.proofs.Writing.{HasWritten}
 use Rattle.normal.specs.NormalText.{node_lines}
-use Rattle.forms.specs.View.{nodes_of}
+use Rattle.calculus.specs.NodeView.{nodes_of}
 use Rattle.normal.proofs.printer.put_nodes.Given as goal
 
 abbrev pub invariant-loop-number : goal.invariant-loop-number

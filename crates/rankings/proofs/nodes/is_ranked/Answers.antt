@@ -1,10 +1,10 @@
 use Rattle.std.proofs.Common.{◌≡◌, ◌<◌, ℕ, ◌∷◌, inl, inr, arith, [], length, true, false, ap, sym, subst}
-use Rattle.forms.specs.Form.{IsShape}
-use Rattle.forms.specs.View.{node_of, shape_of}
+use Rattle.calculus.specs.Form.{IsShape}
+use Rattle.calculus.specs.NodeView.{node_of, shape_of}
 use Rattle.calculus.specs.View.{action_of}
 use Rattle.game.specs.declared.player.Player.TheVariants.{Even, Odd}
 use Rattle.game.specs.Arena.{owner_of, place, successors_of}
-use Rattle.forms.specs.Taken.{IsSetFor}
+use Rattle.calculus.specs.Taken.{IsSetFor}
 use Rattle.rankings.specs.Cells.{cell}
 use Rattle.rankings.specs.Columns.{number_at}
 use Rattle.rankings.specs.Slopes.{CanFollow}

@@ -2,7 +2,7 @@ use Rattle.std.proofs.Common.{◌≡◌, Bool, true, false, not, inr, refl, sym,
 use mathlib.Core.Bool.{beq}
 use Rattle.std.specs.Prelude.{IsTrue}
 use Rattle.systems.specs.declared.system.Transition.{Transition}
-use Rattle.forms.specs.Taken.{is_in}
+use Rattle.calculus.specs.Taken.{is_in}
 use Rattle.rankings.specs.Columns.{number_at}
 use Rattle.rankings.specs.Ranking.{GoesOnWell, winner_of}
 use Rattle.rankings.specs.Slopes.{CanFollow}

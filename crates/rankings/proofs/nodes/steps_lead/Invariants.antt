@@ -1,7 +1,7 @@
 use Rattle.std.proofs.Common.{◌≡◌, ◌<◌, ℕ, true, false}
 use Rattle.std.specs.Prelude.{Some, slice_get}
 use Rattle.systems.specs.declared.system.Transition.{Transition}
-use Rattle.forms.specs.Taken.{is_in}
+use Rattle.calculus.specs.Taken.{is_in}
 use Rattle.rankings.specs.Columns.{number_at}
 use Rattle.rankings.specs.Slopes.{CanFollow}
 use Rattle.rankings.proofs.nodes.steps_lead.Given as goal

@@ -2,11 +2,11 @@ use Rattle.std.proofs.Common.{◌≡◌, Bool, [], length, map, sym, ap, subst, 
 use Rattle.std.proofs.Common.{Vec, Global}
 use Rattle.std.proofs.lemmas.List.{get_or-map}
 use Rattle.std.proofs.lemmas.Option.{slice_get_within}
-use Rattle.forms.specs.Nodes.{Node}
-use Rattle.forms.specs.Normal.{normal_nodes}
-use Rattle.forms.specs.View.{node_of}
+use Rattle.calculus.specs.Nodes.{Node}
+use Rattle.calculus.specs.Normal.{normal_nodes}
+use Rattle.calculus.specs.NodeView.{node_of}
 use Rattle.game.specs.Arena.{vertex_of}
-use Rattle.forms.specs.Taken.{IsSetFor}
+use Rattle.calculus.specs.Taken.{IsSetFor}
 use Rattle.rankings.specs.Cells.{cell, ranking_of}
 use Rattle.rankings.specs.Ranking.{IsRanked}
 use Rattle.rankings.proofs.Rows.{more_nodes}

@@ -1,7 +1,7 @@
 use Rattle.std.proofs.Common.{◌≡◌, ◌<◌, ◌≤◌, ℕ, length}
 use Rattle.std.specs.Prelude.{Some, slice_get}
-use Rattle.forms.specs.Nodes.{Node}
-use Rattle.forms.specs.Normal.{normal_nodes}
+use Rattle.calculus.specs.Nodes.{Node}
+use Rattle.calculus.specs.Normal.{normal_nodes}
 use Rattle.game.specs.Arena.{vertex_of}
 use Rattle.rankings.specs.Cells.{cell, ranking_of}
 use Rattle.rankings.specs.Ranking.{IsRanked}

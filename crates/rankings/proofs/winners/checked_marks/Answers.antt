@@ -1,7 +1,7 @@
 use Rattle.std.proofs.Common.{◌≡◌, subst}
 use Rattle.calculus.specs.Meaning.{MarksOf}
 use Rattle.game.specs.declared.player.Player.TheVariants.{Even}
-use Rattle.forms.specs.Normal.{normal_nodes}
+use Rattle.calculus.specs.Normal.{normal_nodes}
 use Rattle.rankings.specs.Cells.{cell}
 use Rattle.rankings.specs.Ranking.{winner_of}
 use Rattle.rankings.proofs.Goodness.{marks_win}

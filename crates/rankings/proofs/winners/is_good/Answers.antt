@@ -1,5 +1,5 @@
 use Rattle.std.proofs.Common.{arith, ◌∙◌}
-use Rattle.forms.specs.Normal.{normal_nodes}
+use Rattle.calculus.specs.Normal.{normal_nodes}
 use Rattle.rankings.proofs.Goodness.{good_from}
 use Rattle.rankings.proofs.winners.is_good.Goals as goal
 

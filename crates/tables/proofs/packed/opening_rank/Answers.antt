@@ -1,7 +1,7 @@
 use Rattle.std.proofs.Common.{true, false, arith, subst, sym, ◌∙◌}
-use Rattle.progress.specs.Tables.{IsOpening}
-use Rattle.progress.proofs.Numbers.{of_rank_top, of_rank_zero}
-use Rattle.progress.proofs.Plain.{opening_is}
+use Rattle.measures.specs.Tables.{IsOpening}
+use Rattle.measures.proofs.Numbers.{of_rank_top, of_rank_zero}
+use Rattle.measures.proofs.Plain.{opening_is}
 use Rattle.tables.proofs.packed.opening_rank.Goals as goal
 
 pub returns-then-turns_odd : goal.returns-then-turns_odd

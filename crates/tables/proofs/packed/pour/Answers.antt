@@ -1,14 +1,14 @@
 use Rattle.std.proofs.Common.{ℕ, ◌≡◌, ◌<◌, List, ap, arith, below_more, length, slice_index, subst, sym, ◌∙◌}
 use Rattle.std.specs.Mem.Slots.{slots_items}
 use Rattle.game.specs.Game.{Game}
-use Rattle.progress.specs.Lifting.{of_rank}
-use Rattle.progress.specs.Measure.{IsAtMost, Measure}
-use Rattle.progress.specs.Progress.{greater_of, value_at}
-use Rattle.progress.specs.Tables.{LiesBelow}
-use Rattle.progress.proofs.Gathering.{greater_new}
-use Rattle.progress.proofs.Measures.{at_most_trans}
-use Rattle.progress.proofs.Plain.{value_set_same}
-use Rattle.progress.proofs.Rising.{under_itself, under_trans}
+use Rattle.measures.specs.Lifting.{of_rank}
+use Rattle.measures.specs.Measure.{IsAtMost, Measure}
+use Rattle.measures.specs.Progress.{greater_of, value_at}
+use Rattle.measures.specs.Tables.{LiesBelow}
+use Rattle.measures.proofs.Gathering.{greater_new}
+use Rattle.measures.proofs.Measures.{at_most_trans}
+use Rattle.measures.proofs.Plain.{value_set_same}
+use Rattle.measures.proofs.Rising.{under_itself, under_trans}
 use Rattle.tables.proofs.Packing.{read_some}
 use Rattle.tables.proofs.packed.pour.Goals as goal
 

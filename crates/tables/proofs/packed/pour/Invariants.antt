@@ -1,8 +1,8 @@
 use Rattle.std.proofs.Common.{ℕ, ◌≡◌, ◌<◌, slice_index}
 use Rattle.std.specs.Mem.Slots.{slots_items}
-use Rattle.progress.specs.Lifting.{of_rank}
-use Rattle.progress.specs.Measure.{IsAtMost}
-use Rattle.progress.specs.Progress.{LiesUnder, value_at}
+use Rattle.measures.specs.Lifting.{of_rank}
+use Rattle.measures.specs.Measure.{IsAtMost}
+use Rattle.measures.specs.Progress.{LiesUnder, value_at}
 use Rattle.tables.proofs.packed.pour.Given as goal
 
 abbrev pub invariant-loop-v : goal.invariant-loop-v

@@ -1,12 +1,12 @@
 use Rattle.std.proofs.Common.{arith}
-use Rattle.progress.proofs.Ranks.{size_some}
-use Rattle.progress.specs.Measure.{components, kept}
+use Rattle.measures.proofs.Ranks.{size_some}
+use Rattle.measures.specs.Measure.{components, kept}
 use Rattle.game.specs.Game.{count}
 use Rattle.std.proofs.Common.{drop}
 use Rattle.tables.proofs.Weighing.{asked_even, asked_odd, weight_here}
-use Rattle.progress.specs.Lifting.{of_rank}
-use Rattle.progress.proofs.Bests.{prog_at_top}
-use Rattle.progress.proofs.Numbers.{of_rank_top}
+use Rattle.measures.specs.Lifting.{of_rank}
+use Rattle.measures.proofs.Bests.{prog_at_top}
+use Rattle.measures.proofs.Numbers.{of_rank_top}
 use Rattle.tables.proofs.weights.prog_rank.Goals as goal
 
 pub returns-then-number-top-clause-prog : goal.returns-then-number-top-clause-prog

@@ -1,5 +1,5 @@
 use Rattle.calculus.specs.Closed.{closed_formula}
-use Rattle.forms.specs.Normal.{normal_nodes}
+use Rattle.calculus.specs.Normal.{normal_nodes}
 use Rattle.verdicts.proofs.Ranking.{ranked_by}
 use Rattle.verdicts.proofs.ranked.ranked_marks.Goals as goal
 

@@ -1,6 +1,6 @@
 use Rattle.std.proofs.Common.{None, get_or, ◌∙◌}
 use Rattle.std.proofs.lemmas.Option.{slice_get-get_or}
-use Rattle.why.specs.declared.visit.Kind.TheVariants.{On}
+use Rattle.why.specs.declared.visit.Continuation.TheVariants.{On}
 use Rattle.why.specs.declared.visit.Visit.{Visit}
 use Rattle.why.proofs.Heads.{heads_end, heads_more}
 use Rattle.why.proofs.setting.heads.Goals as goal

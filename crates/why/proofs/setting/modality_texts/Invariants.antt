@@ -1,5 +1,5 @@
 use Rattle.std.proofs.Common.{◌≡◌, map, take}
-use Rattle.forms.specs.View.{node_of}
+use Rattle.calculus.specs.NodeView.{node_of}
 use Rattle.why.specs.Story.{modality_of}
 use Rattle.why.proofs.setting.modality_texts.Given as goal
 

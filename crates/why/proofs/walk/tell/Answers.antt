@@ -5,7 +5,7 @@ use Rattle.witness.specs.Walk.{is_marked}
 use Rattle.why.specs.Walk.{IsWalkBy}
 use Rattle.why.specs.declared.walk.Walk.{Walk}
 use Rattle.why.specs.declared.visit.Way.{Way}
-use Rattle.why.specs.declared.visit.Kind.TheVariants.{Sink}
+use Rattle.why.specs.declared.visit.Continuation.TheVariants.{Sink}
 use Rattle.why.proofs.Walking.{has_within, told_branch, told_end, told_on}
 use Rattle.why.proofs.walk.tell.Goals as goal
 

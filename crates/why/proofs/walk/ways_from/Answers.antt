@@ -1,5 +1,5 @@
 use Rattle.std.proofs.Common.{length, subst}
-use Rattle.progress.proofs.Lists.{all_got}
+use Rattle.measures.proofs.Lists.{all_got}
 use Rattle.game.specs.Game.{Game, IsVertex}
 use Rattle.evidence.specs.Evidence.{IsEvidence}
 use Rattle.witness.proofs.Walking.{move_goals, some_vertex}

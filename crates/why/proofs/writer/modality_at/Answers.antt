@@ -1,7 +1,7 @@
 use Rattle.std.proofs.Common.{◌≡◌, ◌-◌, ◌%◌, ℕ, List, Some, ap, length, sym, ◌∙◌}
 use Rattle.std.specs.Prelude.{slice_get}
-use Rattle.forms.specs.Nodes.{Node}
-use Rattle.forms.specs.Normal.{normal_nodes}
+use Rattle.calculus.specs.Nodes.{Node}
+use Rattle.calculus.specs.Normal.{normal_nodes}
 use Rattle.why.specs.Story.{modality_at, modality_of, modality_text, cut, shape_in}
 use Rattle.why.proofs.Lines.{same_maps}
 use Rattle.why.proofs.writer.modality_at.Goals as goal

@@ -1,6 +1,6 @@
 use Rattle.std.proofs.Common.{◌++◌, ◌∙◌, refl}
 use Rattle.std.specs.Prelude.{codes, decimal}
-use Rattle.forms.specs.Normal.{normal_nodes}
+use Rattle.calculus.specs.Normal.{normal_nodes}
 use Rattle.text.proofs.Writing.{Wrote-after, Wrote-as, Wrote-err, WroteFront-after, WroteFront-more}
 use Rattle.why.specs.Story.{shape_at}
 use Rattle.why.proofs.Lines.{stop_is}

@@ -1,6 +1,6 @@
 use Rattle.std.proofs.Common.{◌<◌, length, ◌∙◌, sym, arith, below_more}
 use Rattle.systems.specs.Numbered.{arrow_of}
-use Rattle.forms.specs.Normal.{normal_nodes}
+use Rattle.calculus.specs.Normal.{normal_nodes}
 use Rattle.witness.specs.Walk.{is_marked}
 use Rattle.witness.proofs.Keeping.{none_pass, one_passes, set_told, taken_told}
 use Rattle.witness.proofs.part.is_kept.Goals as goal

@@ -1,8 +1,8 @@
 use Rattle.std.proofs.Common.{◌≡◌, ℕ, ◌<◌, List, false, length, map}
 use Rattle.std.specs.Prelude.{slice_get}
 use Rattle.systems.specs.Numbered.{arrow_of}
-use Rattle.forms.specs.Normal.{normal_nodes}
-use Rattle.forms.specs.Taken.{AreSets}
+use Rattle.calculus.specs.Normal.{normal_nodes}
+use Rattle.calculus.specs.Taken.{AreSets}
 use Rattle.evidence.specs.Witness.{is_taken_at}
 use Rattle.witness.specs.Walk.{is_marked}
 use Rattle.witness.proofs.part.is_kept.Given as goal

@@ -1,5 +1,5 @@
 use Rattle.std.proofs.Common.{ap, ◌∙◌, length, arith}
-use Rattle.forms.specs.Normal.{normal_nodes}
+use Rattle.calculus.specs.Normal.{normal_nodes}
 use Rattle.game.specs.Arena.{place}
 use Rattle.game.specs.Game.{Game}
 use Rattle.witness.proofs.Keeping.{place_is, place_within}

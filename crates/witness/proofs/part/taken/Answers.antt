@@ -2,7 +2,7 @@ use Rattle.std.proofs.Common.{◌≡◌, Bool, ap, sym, subst, ◌∙◌, filter
 use Rattle.std.proofs.lemmas.List.Elements.{All-from_recursion}
 use Rattle.systems.specs.Numbered.{IsInside, IsTransitionOf, arrow_of}
 use Rattle.systems.specs.declared.system.Transition.{Transition}
-use Rattle.forms.specs.Normal.{normal_nodes}
+use Rattle.calculus.specs.Normal.{normal_nodes}
 use Rattle.game.specs.Game.{Game}
 use Rattle.witness.specs.Taken.{is_taken_by_some}
 use Rattle.witness.specs.Walk.{is_marked}

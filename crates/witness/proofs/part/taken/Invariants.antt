@@ -1,6 +1,6 @@
 use Rattle.std.proofs.Common.{◌≡◌, filter, take}
 use Rattle.systems.specs.Numbered.{arrow_of}
-use Rattle.forms.specs.Normal.{normal_nodes}
+use Rattle.calculus.specs.Normal.{normal_nodes}
 use Rattle.witness.specs.Taken.{is_taken_by_some}
 use Rattle.witness.specs.Walk.{is_marked}
 use Rattle.witness.proofs.part.taken.Given as goal

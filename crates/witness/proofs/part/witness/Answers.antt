@@ -1,7 +1,7 @@
 use Rattle.std.proofs.Common.{◌≡◌, List, Bool, subst, sym, ◌∙◌}
 use Rattle.std.proofs.lemmas.Result.{IfOk-weaker}
 use Rattle.systems.specs.Numbered.{system_with}
-use Rattle.forms.specs.Normal.{normal_nodes}
+use Rattle.calculus.specs.Normal.{normal_nodes}
 use Rattle.evidence.specs.Evidence.{IsEvidence, IsGood}
 use Rattle.evidence.specs.Witness.{witness as whole_witness}
 use Rattle.witness.specs.Walk.{is_marked}

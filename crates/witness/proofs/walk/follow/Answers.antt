@@ -1,7 +1,7 @@
 use Rattle.std.proofs.Common.{◌<◌, length, subst, sym, ap, arith}
 use Rattle.std.specs.List.{AllByRecursion}
 use Rattle.std.proofs.lemmas.Result.{on_ok_weaker}
-use Rattle.progress.proofs.Lists.{all_got}
+use Rattle.measures.proofs.Lists.{all_got}
 use Rattle.game.specs.Game.{Game, IsVertex}
 use Rattle.witness.specs.Walk.{AreGoals}
 use Rattle.witness.proofs.Walking.{all_goals, move_goals, read_vertex, some_vertex}

@@ -1,7 +1,7 @@
 use Rattle.std.proofs.Common.{◌<◌, arith, length, subst, sym, true≢false, ◌∙◌}
 use Rattle.game.specs.Game.{Game}
-use Rattle.progress.specs.Tables.{LiesBelow}
-use Rattle.progress.proofs.Lost.{lost_below}
+use Rattle.measures.specs.Tables.{LiesBelow}
+use Rattle.measures.proofs.Lost.{lost_below}
 use Rattle.workers.proofs.team.raise_lost.Goals as goal
 
 -- What has no mark Odd wins, and lies below with top.

@@ -2,7 +2,7 @@ use Rattle.std.proofs.Common.{ℕ, ◌≡◌, ◌<◌, ◌++◌, ◌∷◌, [], 
 use Rattle.std.proofs.lemmas.List.Elements.{All-from_recursion}
 use Rattle.game.specs.Game.{Game}
 use Rattle.game.specs.Predecessors.{predecessors}
-use Rattle.progress.proofs.Lists.{contains_first}
+use Rattle.measures.proofs.Lists.{contains_first}
 use Rattle.workers.specs.Jobs.{Gave}
 use Rattle.workers.specs.Turns.{first_in_block}
 use Rattle.workers.proofs.Giving.{block_inside, gave_both, gave_none, offered_next, place_of}

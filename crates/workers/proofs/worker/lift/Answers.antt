@@ -1,10 +1,10 @@
-use Rattle.progress.proofs.Common.{◌≡◌, ◌+◌, ◌<◌, ◌≤◌, [], ◌∷◌, ◌++◌, List, ℕ, ap, arith, length, refl, slice_index, slice_index_or, subst, sym, take, ◌∙◌, All-from_recursion}
-use Rattle.progress.proofs.Common.{Game, Measure, Some, Vertex, option_map, vertex}
+use Rattle.measures.proofs.Common.{◌≡◌, ◌+◌, ◌<◌, ◌≤◌, [], ◌∷◌, ◌++◌, List, ℕ, ap, arith, length, refl, slice_index, slice_index_or, subst, sym, take, ◌∙◌, All-from_recursion}
+use Rattle.measures.proofs.Common.{Game, Measure, Some, Vertex, option_map, vertex}
 use Rattle.std.proofs.Common.{length-set}
 use Rattle.std.proofs.lemmas.List.{length-take-le, take_all}
 use Rattle.game.specs.Predecessors.{successors_at}
-use Rattle.progress.specs.Progs.{IsDemandOf}
-use Rattle.progress.proofs.Bests.{its_successors, vertex_here, vertex_tells}
+use Rattle.measures.specs.Progs.{IsDemandOf}
+use Rattle.measures.proofs.Bests.{its_successors, vertex_here, vertex_tells}
 use Rattle.liftcore.specs.Reading.{values_of}
 use Rattle.tables.specs.Turns.{reads}
 use Rattle.tables.specs.declared.access.Access.TheVariants.{Read}

@@ -1,5 +1,5 @@
 use Rattle.game.proofs.Common.{◌≡◌, ◌∷◌, [], ◌++◌, List, ℕ, length, subst, sym, ap, ◌∙◌, refl, arith, rules, length-append, length-map, Vertex, AreStored}
-use Rattle.game.proofs.Common.{vertices_of, vertex_of_row, Row}
+use Rattle.game.proofs.Common.{vertices_of, vertex_of_row, VertexRow}
 use Rattle.std.proofs.lemmas.Result.{err_from_is_err_and}
 use Rattle.game.proofs.Rows.{stored_longer, stored_more, vertices_more, rows_same}
 use Rattle.game.proofs.graph.GameBuilder.push.Goals as goal
@@ -24,7 +24,7 @@ pub invariant_of-self-2 : goal.invariant_of-self-2
 invariant_of-self-2 c =
     let i = c.self.inside in
     let ys = c.args.successors.now in
-    let row : Row = record { start = c.len-start.result; count = length ys; owner = c.args.owner; priority = c.args.priority } in
+    let row : VertexRow = record { start = c.len-start.result; count = length ys; owner = c.args.owner; priority = c.args.priority } in
     let rows : c.push.new.self.items ≡ i.rows.items ++ row ∷ [] = c.in_ok-push.ensures.items in
     let longer : c.extend_from_slice.new.self.items ≡ i.successors.items ++ ys = c.in_ok-extend_from_slice.ensures.items in
     let start : c.len-start.result ≡ length i.successors.items = search rules in
@@ -33,7 +33,7 @@ invariant_of-self-2 c =
       limit = rw rows (omega (arith, length-append i.rows.items (row ∷ [])));
       stored =
           subst
-          (λ (rs : List Row). AreStored rs c.extend_from_slice.new.self.items c.count_one.new.counts)
+          (λ (rs : List VertexRow). AreStored rs c.extend_from_slice.new.self.items c.count_one.new.counts)
           (sym rows)
           (subst (λ (xs : List ℕ). AreStored (i.rows.items ++ row ∷ []) xs c.count_one.new.counts) (sym longer)
           (stored_more i.rows.items row i.successors.items ys i.counts c.count_one.new.counts c.self.invariant.stored start refl c.count_one.ensures));
@@ -43,7 +43,7 @@ pub returns-clause-ok : goal.returns-clause-ok
 returns-clause-ok c =
     let i = c.self.inside in
     let ys = c.args.successors.now in
-    let row : Row = record { start = c.len-start.result; count = length ys; owner = c.args.owner; priority = c.args.priority } in
+    let row : VertexRow = record { start = c.len-start.result; count = length ys; owner = c.args.owner; priority = c.args.priority } in
     let rows : c.push.new.self.items ≡ i.rows.items ++ row ∷ [] = c.in_ok-push.ensures.items in
     let longer : c.extend_from_slice.new.self.items ≡ i.successors.items ++ ys = c.in_ok-extend_from_slice.ensures.items in
     let start : c.len-start.result ≡ length i.successors.items = search rules in

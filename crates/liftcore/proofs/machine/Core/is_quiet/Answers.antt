@@ -1,6 +1,6 @@
 use Rattle.std.proofs.Common.{subst, sym}
 use Rattle.game.specs.Game.{IsGame}
-use Rattle.progress.specs.Tables.{IsSettled}
+use Rattle.measures.specs.Tables.{IsSettled}
 use Rattle.liftcore.specs.Core.{Core}
 use Rattle.liftcore.specs.Seats.{core_of}
 use Rattle.liftcore.proofs.Reached.{reached_quiet}

@@ -1,7 +1,7 @@
 use Rattle.std.proofs.Common.{subst, sym}
 use Rattle.game.specs.Game.{Game, IsGame}
-use Rattle.progress.specs.Progress.{IsProgress}
-use Rattle.progress.specs.Tables.{IsSettled}
+use Rattle.measures.specs.Progress.{IsProgress}
+use Rattle.measures.specs.Tables.{IsSettled}
 use Rattle.liftcore.specs.Core.{Core}
 use Rattle.liftcore.specs.Seats.{core_of}
 use Rattle.liftcore.proofs.Reached.{reached_least}

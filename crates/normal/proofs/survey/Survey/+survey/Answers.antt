@@ -1,9 +1,9 @@
 use Rattle.std.proofs.Common.{◌≡◌, ℕ, ◌+◌, ◌≤◌, true, sym, ap, subst, arith, rules, not, false}
 use Rattle.calculus.specs.View.{action_of, regular_of}
-use Rattle.forms.specs.Tree.{Norm, size, two, modal, loop_of}
+use Rattle.calculus.specs.NormalTree.{Norm, size, two, modal, loop_of}
 use Rattle.normal.specs.Part.{tree_of}
 use Rattle.normal.specs.Surveys.{open_at, AreBefore, Surveys}
-use Rattle.normal.specs.declared.survey.Place.{Place}
+use Rattle.normal.specs.declared.survey.PartPlace.{PartPlace}
 use Rattle.normal.proofs.Surveying.{IsLeaf, IsOpened, IsClosed, greatest_le_size, chain_le_size, above_le_size, past_before, junction_surveys, opened_above}
 use Rattle.normal.proofs.Surveying.{fixpoint_surveys}
 use Rattle.normal.proofs.survey.Survey.+survey.Goals as goal
@@ -120,7 +120,7 @@ junction-part-second-requires t c =
     let was : AreBefore c.leaf-leaf.new.self.opens c.args.place.level (c.args.place.at + 1) = λ i below. let b = c.requires.before i below
     in let e : (open_at c.leaf-leaf.new.self.opens i).last
     ≡ (open_at c.args.self.now.opens i).last = ap (λ os. (open_at os i).last) c.leaf-leaf.ensures.opens in omega arith in
-    let P : Place → Type 0 = λ p. (p.at + size (tree_of c.args.right.now p.at) ≤ 4096)
+    let P : PartPlace → Type 0 = λ p. (p.at + size (tree_of c.args.right.now p.at) ≤ 4096)
     × ((p.level ≤ p.at) × AreBefore c.part-first.new.self.opens p.level p.at) in (
       search rules,
       subst P (sym c.beside-2.ensures) (

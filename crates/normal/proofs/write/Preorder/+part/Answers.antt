@@ -1,6 +1,6 @@
 use Rattle.std.proofs.Common.{◌≡◌, ◌+◌, ◌≤◌, ℕ, true, vec_len, arith, rules, ap, ◌∙◌}
-use Rattle.forms.specs.Tree.{Norm, size, two, JunctionNode}
-use Rattle.forms.specs.View.{shape_of}
+use Rattle.calculus.specs.NormalTree.{Norm, size, two, JunctionNode}
+use Rattle.calculus.specs.NodeView.{shape_of}
 use Rattle.normal.specs.Part.{tree_of}
 use Rattle.normal.proofs.Writing.{junction_writes, writes_length}
 use Rattle.normal.proofs.write.Preorder.+part.Goals as goal

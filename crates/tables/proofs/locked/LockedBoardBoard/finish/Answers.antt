@@ -1,9 +1,9 @@
 use Rattle.std.proofs.Common.{◌∙◌, ap, inr, length, refl}
 use Rattle.std.specs.List.{range_with_len}
 use Rattle.game.specs.Game.{Game}
-use Rattle.progress.specs.Progress.{value_at}
-use Rattle.progress.proofs.Measures.{at_most_itself}
-use Rattle.progress.proofs.Rising.{under_itself, under_trans}
+use Rattle.measures.specs.Progress.{value_at}
+use Rattle.measures.proofs.Measures.{at_most_itself}
+use Rattle.measures.proofs.Rising.{under_itself, under_trans}
 use Rattle.tables.specs.Turns.{reads}
 use Rattle.tables.proofs.locked.LockedBoardBoard.finish.Goals as goal
 

@@ -1,5 +1,5 @@
 use Rattle.std.proofs.Common.{◌≡◌, length}
-use Rattle.progress.specs.Progress.{LiesUnder}
+use Rattle.measures.specs.Progress.{LiesUnder}
 use Rattle.tables.proofs.locked.LockedBoardBoard.finish.Given as goal
 
 abbrev pub invariant-loop-v : goal.invariant-loop-v

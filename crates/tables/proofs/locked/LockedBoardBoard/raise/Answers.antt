@@ -1,5 +1,5 @@
 use Rattle.std.proofs.Common.{Bool, [], ◌∷◌, refl, subst, sym, ◌∙◌}
-use Rattle.progress.proofs.Measures.{at_most_itself}
+use Rattle.measures.proofs.Measures.{at_most_itself}
 use Rattle.tables.specs.Part.{value_of_part}
 use Rattle.tables.specs.Turns.{IsRaise}
 use Rattle.tables.specs.declared.access.Access.TheVariants.{Raise, Read}

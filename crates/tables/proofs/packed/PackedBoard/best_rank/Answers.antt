@@ -1,15 +1,15 @@
 use Rattle.std.proofs.Common.{ℕ, ◌≡◌, ◌<◌, ◌≤◌, ◌+◌, List, Some, ap, arith, length, option_map, slice_index, subst, suc, sym}
 use Rattle.std.proofs.lemmas.List.Elements.{All-from_recursion}
 use Rattle.game.specs.Game.{Game, Vertex, vertex}
-use Rattle.progress.specs.Lifting.{height, of_rank, worst_of}
-use Rattle.progress.specs.Measure.{IsAtMost, IsProg, Measure}
-use Rattle.progress.specs.Progress.{LiesUnder, value_at}
-use Rattle.progress.specs.Progs.{IsProgAt}
+use Rattle.measures.specs.Lifting.{height, of_rank, worst_of}
+use Rattle.measures.specs.Measure.{IsAtMost, IsProg, Measure}
+use Rattle.measures.specs.Progress.{LiesUnder, value_at}
+use Rattle.measures.specs.Progs.{IsProgAt}
 use Rattle.game.specs.declared.player.Player.{Player}
-use Rattle.progress.proofs.Bests.{its_successors, vertex_here}
-use Rattle.progress.proofs.Gathering.{IsGathered, gathered_below, gathered_next, gathered_none, gathered_over}
-use Rattle.progress.proofs.Measures.{at_most_trans}
-use Rattle.progress.proofs.Rising.{set_under, under_itself, under_trans}
+use Rattle.measures.proofs.Bests.{its_successors, vertex_here}
+use Rattle.measures.proofs.Gathering.{IsGathered, gathered_below, gathered_next, gathered_none, gathered_over}
+use Rattle.measures.proofs.Measures.{at_most_trans}
+use Rattle.measures.proofs.Rising.{set_under, under_itself, under_trans}
 use Rattle.tables.specs.Seats.{board_game, done, seen}
 use Rattle.tables.specs.Weights.{AreWeights}
 use Rattle.tables.proofs.Asking.{HasAsked, asked_all, asked_next, asked_none}

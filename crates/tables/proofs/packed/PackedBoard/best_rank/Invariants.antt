@@ -1,7 +1,7 @@
 use Rattle.std.proofs.Common.{◌≡◌, Some}
 use Rattle.game.specs.Game.{Vertex, vertex}
-use Rattle.progress.specs.Progress.{LiesUnder}
-use Rattle.progress.proofs.Gathering.{IsGathered}
+use Rattle.measures.specs.Progress.{LiesUnder}
+use Rattle.measures.proofs.Gathering.{IsGathered}
 use Rattle.tables.specs.Seats.{IsSeatOf, board_game, done, seen}
 use Rattle.tables.proofs.Asking.{HasAsked}
 use Rattle.tables.proofs.packed.PackedBoard.best_rank.Given as goal

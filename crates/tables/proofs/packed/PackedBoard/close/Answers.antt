@@ -1,7 +1,7 @@
 use Rattle.std.proofs.Common.{◌≡◌, ap, arith, length, sym, ◌∙◌}
 use Rattle.std.specs.Mem.Slots.{slots_items}
 use Rattle.game.specs.Game.{Game}
-use Rattle.progress.specs.Lifting.{height}
+use Rattle.measures.specs.Lifting.{height}
 use Rattle.tables.proofs.Packing.{closed_over, closed_words}
 use Rattle.tables.proofs.packed.PackedBoard.close.Goals as goal
 

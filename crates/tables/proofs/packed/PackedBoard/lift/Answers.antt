@@ -1,10 +1,10 @@
 use Rattle.std.proofs.Common.{◌++◌, refl}
-use Rattle.progress.specs.Lifting.{of_rank}
-use Rattle.progress.specs.Measure.{IsAtMost}
-use Rattle.progress.specs.Progress.{greater_of, value_at}
-use Rattle.progress.proofs.Measures.{at_most_trans}
-use Rattle.progress.proofs.Monotone.{greater_has}
-use Rattle.progress.proofs.Rising.{under_trans}
+use Rattle.measures.specs.Lifting.{of_rank}
+use Rattle.measures.specs.Measure.{IsAtMost}
+use Rattle.measures.specs.Progress.{greater_of, value_at}
+use Rattle.measures.proofs.Measures.{at_most_trans}
+use Rattle.measures.proofs.Monotone.{greater_has}
+use Rattle.measures.proofs.Rising.{under_trans}
 use Rattle.tables.specs.Seats.{board_game, seen}
 use Rattle.tables.proofs.Doing.{did_both}
 use Rattle.tables.proofs.packed.PackedBoard.lift.Goals as goal

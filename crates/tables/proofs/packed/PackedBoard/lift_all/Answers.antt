@@ -1,11 +1,11 @@
 use Rattle.std.proofs.Common.{ℕ, ◌≡◌, ◌≤◌, ◌-◌, ap, ◌∙◌, arith, inl, inr, length, subst, sym}
 use Rattle.std.proofs.lemmas.Bool.Decides.{eqb_tells}
 use Rattle.game.specs.Game.{Game}
-use Rattle.progress.specs.Progress.{IsOverLift, value_at}
-use Rattle.progress.proofs.Measures.{at_most_trans}
-use Rattle.progress.proofs.Rising.{under_itself, under_trans}
-use Rattle.progress.proofs.Rounds.{over_lesser}
-use Rattle.progress.proofs.Settling.{plain_table}
+use Rattle.measures.specs.Progress.{IsOverLift, value_at}
+use Rattle.measures.proofs.Measures.{at_most_trans}
+use Rattle.measures.proofs.Rising.{under_itself, under_trans}
+use Rattle.measures.proofs.Rounds.{over_lesser}
+use Rattle.measures.proofs.Settling.{plain_table}
 use Rattle.tables.specs.Seats.{board_game, seen}
 use Rattle.tables.proofs.packed.PackedBoard.lift_all.Goals as goal
 

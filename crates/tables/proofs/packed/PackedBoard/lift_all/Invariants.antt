@@ -1,5 +1,5 @@
 use Rattle.std.proofs.Common.{ℕ, ◌<◌, ◌≤◌, length}
-use Rattle.progress.specs.Progress.{IsOverLift, LiesUnder, value_at}
+use Rattle.measures.specs.Progress.{IsOverLift, LiesUnder, value_at}
 use Rattle.tables.specs.Seats.{IsSeatOf, board_game, seen}
 use Rattle.tables.proofs.packed.PackedBoard.lift_all.Given as goal
 

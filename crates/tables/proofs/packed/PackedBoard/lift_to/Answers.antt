@@ -1,11 +1,11 @@
 use Rattle.std.proofs.Common.{ℕ, ◌≡◌, ◌≤◌, ap, arith, subst, sym, ◌∙◌}
 use Rattle.game.specs.Game.{Game}
-use Rattle.progress.specs.Lifting.{height, of_rank, rank}
-use Rattle.progress.specs.Measure.{IsAtMost, IsMeasure, Measure}
-use Rattle.progress.specs.Progress.{value_at}
-use Rattle.progress.specs.Tables.{LiesBelow}
-use Rattle.progress.proofs.Numbers.{of_rank_rank}
-use Rattle.progress.proofs.Ranks.{rank_bounded}
+use Rattle.measures.specs.Lifting.{height, of_rank, rank}
+use Rattle.measures.specs.Measure.{IsAtMost, IsMeasure, Measure}
+use Rattle.measures.specs.Progress.{value_at}
+use Rattle.measures.specs.Tables.{LiesBelow}
+use Rattle.measures.proofs.Numbers.{of_rank_rank}
+use Rattle.measures.proofs.Ranks.{rank_bounded}
 use Rattle.tables.specs.Seats.{Did, board_game, seen}
 use Rattle.tables.specs.Turns.{By, IsRaise}
 use Rattle.tables.proofs.packed.PackedBoard.lift_to.Goals as goal

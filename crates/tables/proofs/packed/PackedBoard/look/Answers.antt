@@ -1,11 +1,11 @@
 use Rattle.std.proofs.Common.{ℕ, ◌≡◌, ◌<◌, ◌+◌, List, ap, arith, length, refl, subst, suc, sym, slice_set, ◌∙◌}
 use Rattle.game.specs.Game.{Game}
-use Rattle.progress.specs.Lifting.{of_rank, rank, total}
-use Rattle.progress.specs.Measure.{Measure}
-use Rattle.progress.specs.Progress.{LiesUnder, value_at}
-use Rattle.progress.proofs.Numbers.{rank_of_rank}
-use Rattle.progress.proofs.Rising.{set_under, under_itself, under_trans}
-use Rattle.progress.proofs.Rounds.{sum_next}
+use Rattle.measures.specs.Lifting.{of_rank, rank, total}
+use Rattle.measures.specs.Measure.{Measure}
+use Rattle.measures.specs.Progress.{LiesUnder, value_at}
+use Rattle.measures.proofs.Numbers.{rank_of_rank}
+use Rattle.measures.proofs.Rising.{set_under, under_itself, under_trans}
+use Rattle.measures.proofs.Rounds.{sum_next}
 use Rattle.tables.specs.Seats.{board_game, seen}
 use Rattle.tables.proofs.packed.PackedBoard.look.Goals as goal
 

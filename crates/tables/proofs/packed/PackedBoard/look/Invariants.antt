@@ -1,6 +1,6 @@
 use Rattle.std.proofs.Common.{◌≡◌, ◌≤◌, ◌*◌}
-use Rattle.progress.specs.Lifting.{rank, total}
-use Rattle.progress.specs.Progress.{LiesUnder, value_at}
+use Rattle.measures.specs.Lifting.{rank, total}
+use Rattle.measures.specs.Progress.{LiesUnder, value_at}
 use Rattle.tables.specs.Seats.{IsSeatOf, board_game, seen}
 use Rattle.tables.proofs.packed.PackedBoard.look.Given as goal
 

@@ -1,8 +1,8 @@
 use Rattle.std.proofs.Common.{◌<◌, [], ◌∷◌, ◌++◌, ap, length, subst, sym, ◌∙◌}
 use Rattle.std.specs.Arc.{arc_value}
 use Rattle.game.specs.Game.{Game}
-use Rattle.progress.specs.Lifting.{of_rank}
-use Rattle.progress.specs.Tables.{LiesBelow}
+use Rattle.measures.specs.Lifting.{of_rank}
+use Rattle.measures.specs.Tables.{LiesBelow}
 use Rattle.tables.specs.Packed.{IsWord}
 use Rattle.tables.proofs.Packing.{looks, seen_more}
 use Rattle.tables.specs.declared.access.Access.TheVariants.{Read}

@@ -2,10 +2,10 @@ use Rattle.std.proofs.Common.{ℕ, ◌<◌, ◌≤◌, ◌↔◌, List, [], ◌�
 use Rattle.std.proofs.lemmas.Bool.{lt-ltb, ltb-true}
 use Rattle.std.specs.Arc.{arc_value}
 use Rattle.game.specs.Game.{Game}
-use Rattle.progress.specs.Lifting.{of_rank, height}
-use Rattle.progress.specs.Measure.{IsBelow}
-use Rattle.progress.specs.Tables.{LiesBelow}
-use Rattle.progress.proofs.Numbers.{of_rank_measure, rank_of_rank, rank_order}
+use Rattle.measures.specs.Lifting.{of_rank, height}
+use Rattle.measures.specs.Measure.{IsBelow}
+use Rattle.measures.specs.Tables.{LiesBelow}
+use Rattle.measures.proofs.Numbers.{of_rank_measure, rank_of_rank, rank_order}
 use Rattle.tables.specs.Packed.{IsWord}
 use Rattle.tables.proofs.Packing.{raised_seen, raises, seen_more, word_max}
 use Rattle.tables.specs.declared.access.Access.{Access}

@@ -1,8 +1,8 @@
 use Rattle.std.proofs.Common.{◌≡◌, [], ap, arith, length, subst, ◌∙◌}
 use Rattle.std.specs.Arc.{arc_value}
 use Rattle.game.specs.Game.{Game, IsGame}
-use Rattle.progress.specs.Progress.{opening}
-use Rattle.progress.proofs.Plain.{opening_plain}
+use Rattle.measures.specs.Progress.{opening}
+use Rattle.measures.proofs.Plain.{opening_plain}
 use Rattle.tables.specs.declared.packed.View.{View}
 use Rattle.tables.proofs.Packing.{enters}
 use Rattle.tables.proofs.packed.PackedBoard.new_seat.Goals as goal

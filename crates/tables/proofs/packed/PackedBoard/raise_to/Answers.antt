@@ -1,8 +1,8 @@
 use Rattle.std.proofs.Common.{◌<◌, [], ◌∷◌, arith, length, refl}
-use Rattle.progress.specs.Lifting.{of_rank}
-use Rattle.progress.proofs.Rising.{under_trans}
+use Rattle.measures.specs.Lifting.{of_rank}
+use Rattle.measures.proofs.Rising.{under_trans}
 use Rattle.tables.specs.Seats.{board_game, seen}
-use Rattle.progress.proofs.Numbers.{of_rank_up}
+use Rattle.measures.proofs.Numbers.{of_rank_up}
 use Rattle.tables.proofs.Doing.{did_both}
 use Rattle.tables.proofs.Packing.{looked_high}
 use Rattle.tables.specs.declared.access.Access.TheVariants.{Raise, Read}

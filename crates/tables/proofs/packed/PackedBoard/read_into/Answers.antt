@@ -1,11 +1,11 @@
 use Rattle.std.proofs.Common.{◌≡◌, ◌<◌, [], ◌∷◌, ◌++◌, List, ap, arith, length, refl, subst, suc, sym, ◌+◌, ℕ, ◌∙◌, length-set, length-append}
 use Rattle.std.specs.List.{range_with_len}
 use Rattle.std.proofs.lemmas.List.{append-nil}
-use Rattle.progress.specs.Measure.{IsAtMost, Measure}
-use Rattle.progress.specs.Progress.{greater_of, value_at}
-use Rattle.progress.proofs.Gathering.{greater_new}
-use Rattle.progress.proofs.Plain.{value_set_same}
-use Rattle.progress.proofs.Rising.{under_itself, under_trans}
+use Rattle.measures.specs.Measure.{IsAtMost, Measure}
+use Rattle.measures.specs.Progress.{greater_of, value_at}
+use Rattle.measures.proofs.Gathering.{greater_new}
+use Rattle.measures.proofs.Plain.{value_set_same}
+use Rattle.measures.proofs.Rising.{under_itself, under_trans}
 use Rattle.game.specs.Game.{Game}
 use Rattle.tables.specs.Seats.{Did, board_game, done}
 use Rattle.tables.specs.Turns.{reads}

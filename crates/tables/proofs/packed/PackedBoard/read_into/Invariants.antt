@@ -1,7 +1,7 @@
 use Rattle.std.proofs.Common.{◌≡◌, ℕ, ◌<◌, List, length}
 use Rattle.std.specs.List.{range_with_len}
-use Rattle.progress.specs.Measure.{IsAtMost, Measure}
-use Rattle.progress.specs.Progress.{LiesUnder, value_at}
+use Rattle.measures.specs.Measure.{IsAtMost, Measure}
+use Rattle.measures.specs.Progress.{LiesUnder, value_at}
 use Rattle.tables.specs.Seats.{Did, IsSeatOf, board_game}
 use Rattle.tables.specs.Turns.{reads}
 use Rattle.tables.proofs.packed.PackedBoard.read_into.Given as goal

@@ -1,10 +1,10 @@
 use Rattle.std.proofs.Common.{◌≡◌, arith}
-use Rattle.progress.specs.Lifting.{sum_of}
-use Rattle.progress.specs.Progress.{LiesUnder, value_at}
-use Rattle.progress.proofs.Measures.{at_most_trans}
-use Rattle.progress.proofs.Rising.{under_trans}
-use Rattle.progress.proofs.Rounds.{rounds_least, sum_under}
-use Rattle.progress.proofs.Settling.{plain_table, sum_limit}
+use Rattle.measures.specs.Lifting.{sum_of}
+use Rattle.measures.specs.Progress.{LiesUnder, value_at}
+use Rattle.measures.proofs.Measures.{at_most_trans}
+use Rattle.measures.proofs.Rising.{under_trans}
+use Rattle.measures.proofs.Rounds.{rounds_least, sum_under}
+use Rattle.measures.proofs.Settling.{plain_table, sum_limit}
 use Rattle.tables.specs.Seats.{board_game, seen}
 use Rattle.tables.proofs.packed.PackedBoard.settle_seat.Goals as goal
 

@@ -1,6 +1,6 @@
 use Rattle.std.proofs.Common.{◌≡◌, ◌-◌, ◌*◌, length}
-use Rattle.progress.specs.Lifting.{height, sum_of}
-use Rattle.progress.specs.Progress.{LiesUnder}
+use Rattle.measures.specs.Lifting.{height, sum_of}
+use Rattle.measures.specs.Progress.{LiesUnder}
 use Rattle.tables.specs.Seats.{IsSeatOf, board_game, seen}
 use Rattle.tables.proofs.packed.PackedBoard.settle_seat.Given as goal
 

@@ -1,5 +1,5 @@
 use Rattle.std.proofs.Common.{inr}
-use Rattle.progress.proofs.Rising.{under_itself}
+use Rattle.measures.proofs.Rising.{under_itself}
 use Rattle.tables.proofs.packed_board.PackedBoardBoard.finish.Goals as goal
 
 pub returns-in_default-clause-kept : goal.returns-in_default-clause-kept

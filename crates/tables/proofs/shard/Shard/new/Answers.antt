@@ -1,5 +1,5 @@
-use Rattle.progress.proofs.Common.{◌≡◌, ℕ, ◌<◌, ◌/◌, ◌%◌, ◌+◌, ◌*◌, ◌∙◌, ap, arith, length, replicate, subst, sym, Counts, Game, IsOpening, false, opening}
-use Rattle.progress.proofs.Common.{value_at}
+use Rattle.measures.proofs.Common.{◌≡◌, ℕ, ◌<◌, ◌/◌, ◌%◌, ◌+◌, ◌*◌, ◌∙◌, ap, arith, length, replicate, subst, sym, Counts, Game, IsOpening, false, opening}
+use Rattle.measures.proofs.Common.{value_at}
 use Rattle.tables.specs.Part.{IsStoredPart}
 use Rattle.tables.proofs.Parts.{IsFilled, filled_first, filled_inside, filled_left, filled_part, filled_top, place_less}
 use Rattle.tables.proofs.shard.Shard.new.Goals as goal

@@ -2,11 +2,11 @@ use Rattle.std.proofs.Common.{◌≡◌, ◌≤◌, ℕ, suc, Bool, List, None, 
 use Rattle.std.specs.Prelude.{slice_get}
 use Rattle.std.proofs.lemmas.Option.{slice_get-get_or}
 use Rattle.systems.specs.System.{System}
-use Rattle.forms.specs.Nodes.{Node}
-use Rattle.forms.specs.Normal.{normal_nodes}
+use Rattle.calculus.specs.Nodes.{Node}
+use Rattle.calculus.specs.Normal.{normal_nodes}
 use Rattle.text.proofs.Writing.{Wrote-after, Wrote-as, Wrote-err, WroteFront-after, WroteFront-more}
 use Rattle.why.specs.Story.{step_before, visit_text}
-use Rattle.why.specs.declared.visit.Kind.TheVariants.{On}
+use Rattle.why.specs.declared.visit.Continuation.TheVariants.{On}
 use Rattle.why.specs.declared.visit.Visit.{Visit}
 use Rattle.why.proofs.writer.StoryLines.put_line.Goals as goal
 

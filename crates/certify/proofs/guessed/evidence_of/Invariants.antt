@@ -1,6 +1,0 @@
-use Rattle.std.proofs.Common.{◌≡◌, length}
-use Rattle.evidence.specs.Evidence.{counted}
-use Rattle.certify.proofs.guessed.evidence_of.Given as goal
-
-abbrev pub invariant-loop-v : goal.invariant-loop-v
-invariant-loop-v l = (l.draft.game ≡ l.game) × (l.draft.evidence.player ≡ l.fn.player) × (length l.rank.items ≡ length (counted l.fn.player l.game))

@@ -1,6 +1,0 @@
-use Rattle.std.proofs.Common.{arith}
-use Rattle.certify.proofs.Whole.{all_small}
-use Rattle.certify.proofs.small.are_small.Goals as goal
-
-pub returns : goal.returns
-returns c = λ yes. all_small c.args.rank.now (λ i h. c.loop-count.invariant i (omega (arith, h)))

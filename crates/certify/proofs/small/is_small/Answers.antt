@@ -1,6 +1,0 @@
-use Rattle.std.proofs.Common.{arith}
-use Rattle.certify.proofs.Whole.{small_all}
-use Rattle.certify.proofs.small.is_small.Goals as goal
-
-pub returns : goal.returns
-returns c = λ yes. small_all c.args.evidence.now.evidence c.loop-v.v (omega (arith, c.known.ensures.long)) c.loop-v.invariant

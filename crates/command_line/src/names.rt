@@ -1,0 +1,212 @@
+// The names of a command's files: nothing is written to a file that it reads, or that another of its texts goes to.
+
+ghost use Rattle.std.specs.Prelude.{◌≡◌, ◌↔◌, ◌⊎◌, ◌∷◌, ◌++◌, [], IfErr, IfOk, IsTrue, Some, codes, map, option_map};
+ghost use Rattle.std.specs.List.{list_any};
+ghost use Rattle.std.specs.String.{string_bytes};
+ghost use Rattle.command_line.specs.Refused.{IsLineError};
+ghost use Rattle.command_line.specs.Named.{name_of};
+ghost use Rattle.command_line.specs.Names.{AreApart, IsApart, KeepsFiles, KeepsGame, KeepsNames, HasEnding, even_name, has_name, is_device, odd_name};
+ghost use Rattle.command_line.specs.Refused.{IfArguments};
+
+use crate::request::{Command, Outputs};
+use requests::error::{ArgumentError, CheckFile, MuError};
+use requests::request::{Check, Solve};
+use std::alloc::{AllocError, Global};
+
+/// The names of both files of evidence.
+#[derive(Drop)]
+pub struct EvidenceNames {
+    pub even: String,
+    pub odd: String,
+}
+
+impl EvidenceNames {
+    /// `PATH.even` and `PATH.odd`.
+    pub fn of(alloc: Global, path: &str) -> Result<EvidenceNames, AllocError>
+        ensures even { IfOk result (λ names. string_bytes names.even ≡ even_name path.now) }
+        ensures odd { IfOk result (λ names. string_bytes names.odd ≡ odd_name path.now) }
+    {
+        let even = joined(alloc, path, ".even")?;
+        let odd = joined(alloc, path, ".odd")?;
+        Ok(EvidenceNames { even, odd })
+    }
+}
+
+fn joined(alloc: Global, path: &str, ending: &str) -> Result<String, AllocError>
+    ensures { IfOk result (λ name. string_bytes name ≡ path.now ++ ending.now) }
+{
+    let mut name = String::from_str(alloc, path)?;
+    name.push_str(ending)?;
+    Ok(name)
+}
+
+/// A file of a command, with its name if the command has such a file.
+#[derive(Clone, Copy)]
+pub struct Named<'a> {
+    pub file: CheckFile,
+    pub name: Option<&'a str>,
+}
+
+/// Refuses a command that would write to a file twice, or to one that it reads.
+///
+/// # Errors
+/// U1, with both files; U4.
+pub fn keep_files(alloc: Global, command: &Command<'_>) -> Result<(), MuError>
+    ensures kept { IfOk result (λ _. KeepsFiles command.now) }
+    ensures refused { IfErr result IsLineError }
+    ensures only { IfErr result (λ e. IfArguments e (KeepsFiles command.now → ⊥)) }
+{
+    match command {
+        Command::Check(check, outputs) => keep_names(alloc, check, outputs),
+        Command::Solve(solve) => keep_game(alloc, solve),
+        _ => Ok(()),
+    }
+}
+
+fn keep_names(alloc: Global, check: &Check<'_>, outputs: &Outputs<'_>) -> Result<(), MuError>
+    ensures kept { IfOk result (λ _. KeepsNames check.now outputs.now) }
+    ensures refused { IfErr result IsLineError }
+    ensures only { IfErr result (λ e. IfArguments e (KeepsNames check.now outputs.now → ⊥)) }
+{
+    let kept = match outputs.evidence {
+        None => keep_apart(check, outputs, None, None),
+        Some(path) => {
+            let Ok(names) = EvidenceNames::of(alloc, path) else {
+                return Err(MuError::Memory);
+            };
+            keep_apart(
+                check,
+                outputs,
+                Some(names.even.as_str()),
+                Some(names.odd.as_str()),
+            )
+        }
+    };
+    kept.map_err(MuError::Arguments)
+}
+
+fn keep_apart(
+    check: &Check<'_>,
+    outputs: &Outputs<'_>,
+    even: Option<&str>,
+    odd: Option<&str>,
+) -> Result<(), ArgumentError>
+    ensures kept { IfOk result (λ _. AreApart (option_map (λ name. name.now) outputs.now.game ∷ option_map (λ name. name.now) even.entry
+        ∷ option_map (λ name. name.now) odd.entry ∷ option_map (λ name. name.now) outputs.now.witness ∷ [])
+        (Some check.now.system.now ∷ Some check.now.formula.now ∷ [])) }
+    ensures only { IfErr result (λ _. AreApart (option_map (λ name. name.now) outputs.now.game ∷ option_map (λ name. name.now) even.entry
+        ∷ option_map (λ name. name.now) odd.entry ∷ option_map (λ name. name.now) outputs.now.witness ∷ [])
+        (Some check.now.system.now ∷ Some check.now.formula.now ∷ []) → ⊥) }
+{
+    let file = |file, name| Named { file, name };
+    let system = file(CheckFile::System, Some(check.system));
+    let formula = file(CheckFile::Formula, Some(check.formula));
+    let game = file(CheckFile::Game, outputs.game);
+    let even = file(CheckFile::EvenEvidence, even);
+    let odd = file(CheckFile::OddEvidence, odd);
+    let witness = file(CheckFile::Witness, outputs.witness);
+    apart(game, &[even, odd, witness, system, formula])?;
+    apart(even, &[odd, witness, system, formula])?;
+    apart(odd, &[witness, system, formula])?;
+    apart(witness, &[system, formula])
+}
+
+fn keep_game(alloc: Global, solve: &Solve<'_>) -> Result<(), MuError>
+    ensures kept { IfOk result (λ _. KeepsGame solve.now) }
+    ensures refused { IfErr result IsLineError }
+    ensures only { IfErr result (λ e. IfArguments e (KeepsGame solve.now → ⊥)) }
+{
+    let Some(path) = solve.evidence else {
+        return Ok(());
+    };
+    let Ok(names) = EvidenceNames::of(alloc, path) else {
+        return Err(MuError::Memory);
+    };
+    keep_evidence(alloc, solve.game, names.even.as_str(), names.odd.as_str())
+}
+
+fn keep_evidence(alloc: Global, game: &str, even: &str, odd: &str) -> Result<(), MuError>
+    ensures kept { IfOk result (λ _. AreApart (Some even.now ∷ Some odd.now ∷ []) (Some game.now ∷ [])) }
+    ensures refused { IfErr result IsLineError }
+    ensures only { IfErr result (λ e. IfArguments e (AreApart (Some even.now ∷ Some odd.now ∷ []) (Some game.now ∷ []) → ⊥)) }
+{
+    let file = |file, name| Named { file, name };
+    let game = file(CheckFile::Game, Some(game));
+    let even = file(CheckFile::EvenEvidence, Some(even));
+    let odd = file(CheckFile::OddEvidence, Some(odd));
+    // Evidence of one player never has the name of the other's: what it may have is that of the game.
+    if apart(even, &[odd, game]).is_err() {
+        return Err(over_game(alloc, CheckFile::EvenEvidence));
+    }
+    if apart(odd, &[game]).is_err() {
+        return Err(over_game(alloc, CheckFile::OddEvidence));
+    }
+    Ok(())
+}
+
+/// The refusal of a file that is written and is that of the game that is read.
+pub fn over_game(alloc: Global, file: CheckFile) -> MuError
+    ensures { IsLineError result }
+{
+    match format!(in alloc; "error: {file} and GAME are the same file\n") {
+        Ok(text) => MuError::Arguments(ArgumentError::Refused(text)),
+        Err(AllocError) => MuError::Memory,
+    }
+}
+
+/// Refuses a file that has another one's name.
+fn apart(one: Named<'_>, others: &[Named<'_>]) -> Result<(), ArgumentError>
+    ensures apart { IfOk result (λ _. IsApart (name_of one.entry) (map name_of others.now)) }
+    ensures only { IfErr result (λ _. IsApart (name_of one.entry) (map name_of others.now) → ⊥) }
+{
+    let Some(name) = one.name else {
+        return Ok(());
+    };
+    if is_device(name) {
+        return Ok(());
+    }
+    if !is_among(name, others) {
+        return Ok(());
+    }
+    let other = others.iter().find(|other| has_name(name, other));
+    let other = other.map_or(one.file, |other| other.file);
+    Err(ArgumentError::SameFile(one.file, other))
+}
+
+fn is_among(name: &str, files: &[Named<'_>]) -> bool
+    ensures { result ≡ list_any (λ file. has_name name.now (name_of file)) files.now }
+{
+    files.iter().any(|file| has_name(name, file))
+}
+
+/// Whether any number of texts may go there.
+pub fn is_device(name: &str) -> bool
+    ensures { result ≡ is_device name.now }
+{
+    name == "/dev/null" || name == "/dev/stdout" || name == "/dev/stderr"
+}
+
+fn has_name(name: &str, file: &Named<'_>) -> bool
+    ensures { result ≡ has_name name.now (name_of file.now) }
+{
+    match file.name {
+        Some(other) => other == name,
+        None => false,
+    }
+}
+
+/// Whether a witness is written as a drawing: where the name of its file ends with `.dot` or `.gv`, in small letters or capital ones.
+pub fn is_drawing(name: &str) -> bool
+    ensures { IsTrue result ↔ (HasEnding (codes ".dot") name.now ⊎ HasEnding (codes ".gv") name.now) }
+{
+    has_ending(name.as_bytes(), b".dot") || has_ending(name.as_bytes(), b".gv")
+}
+
+fn has_ending(name: &[u8], ending: &[u8]) -> bool
+    ensures { IsTrue result ↔ HasEnding ending.now name.now }
+{
+    if name.len() < ending.len() {
+        return false;
+    }
+    name[name.len() - ending.len()..].eq_ignore_ascii_case(ending)
+}

@@ -1,3 +1,0 @@
-mod Firsts
-mod Noting
-mod Scanning

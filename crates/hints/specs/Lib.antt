@@ -1,3 +1,0 @@
-pub mod Absent
-pub mod Strange
-pub mod Noted

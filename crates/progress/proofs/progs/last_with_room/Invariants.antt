@@ -1,5 +1,0 @@
-use Rattle.progress.specs.Progs.{AreAtBounds}
-use Rattle.progress.proofs.progs.last_with_room.Given as goal
-
-abbrev pub invariant-loop-k : goal.invariant-loop-k
-invariant-loop-k l = AreAtBounds l.bounds l.counts l.k l.kept

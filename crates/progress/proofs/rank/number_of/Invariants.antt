@@ -1,5 +1,0 @@
-use Rattle.progress.proofs.Numbers.{IsReadTo}
-use Rattle.progress.proofs.rank.number_of.Given as goal
-
-abbrev pub invariant-loop-k : goal.invariant-loop-k
-invariant-loop-k l = IsReadTo l.bounds l.counts l.k l.number

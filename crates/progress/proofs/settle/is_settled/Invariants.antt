@@ -1,5 +1,0 @@
-use Rattle.progress.proofs.Common.{◌<◌, ℕ, IsStill}
-use Rattle.progress.proofs.settle.is_settled.Given as goal
-
-abbrev pub invariant-loop-v : goal.invariant-loop-v
-invariant-loop-v l = (u : ℕ) → u < l.v → IsStill l.game l.table.values u

@@ -1,9 +1,0 @@
-use Rattle.std.proofs.Common.{◌≡◌}
-use Rattle.progress.proofs.Settling.{Swept}
-use Rattle.progress.proofs.settle.sweep.Given as goal
-
-abbrev pub invariant-loop-v : goal.invariant-loop-v
-invariant-loop-v l = record {
-  game : l.table.game ≡ l.game;
-  swept : Swept l.game l.v l.fn.table.values l.table.values l.rose;
-}

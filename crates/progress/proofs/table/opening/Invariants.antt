@@ -1,5 +1,0 @@
-use Rattle.progress.proofs.Plain.{IsOpened}
-use Rattle.progress.proofs.table.opening.Given as goal
-
-abbrev pub invariant-loop-v : goal.invariant-loop-v
-invariant-loop-v l = IsOpened l.game l.v l.rows
