@@ -97,7 +97,7 @@ pub(crate) struct Layout {
     pub(crate) is_wide: bool,
     pub(crate) even: Fields,
     pub(crate) odd: Fields,
-    /// In a ranking: how many bits are below all fields, for the mark and the height, and above them, for the group.
+    /// How many bits are below all fields, for the mark and in a ranking for the height, and above them, for the group and of measures for another mark.
     pub(crate) low: u32,
     pub(crate) group: u32,
 }
@@ -111,10 +111,10 @@ impl Layout {
             height = node.height.max(height);
             priorities |= counted(arena, node, number);
         }
+        let group = bits(u32::try_from(arena.count()).unwrap_or(u32::MAX));
         if arena.is_exact {
-            Layout::with(priorities | 3, is_wide, 0, 0)
+            Layout::with(priorities | 3, is_wide, 1, group.saturating_add(1))
         } else {
-            let group = bits(u32::try_from(arena.count()).unwrap_or(u32::MAX));
             Layout::with(priorities, is_wide, bits(height).saturating_add(1), group)
         }
     }

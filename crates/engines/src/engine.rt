@@ -28,6 +28,7 @@ use text::sink::Sink;
 use text::source::Source;
 use verdicts::findings::{Findings, find_in};
 use verdicts::marks::{game_marks, plain_marks};
+use verdicts::proposing::least_found;
 
 /// The check that a command asks for: by sets of states where it is plain, and then it writes the report alone; else by a game, with
 /// what is wanted. Each text has a writer; nothing is written to those of texts that aren't wanted. Where it is strict, each word of the
@@ -172,7 +173,8 @@ fn check_by_game<
         let out = &mut writers.report;
         return report_by_game(rt, alloc, &texts, options, wanted.report, out, watcher);
     }
-    let found = find_in(rt, alloc, texts, options, watcher)?;
+    let least = least_found(alloc, &texts, options, watcher);
+    let found = find_in(rt, alloc, texts, least, options, watcher)?;
     tell_making(&found, wanted, watcher);
     let prepared = prepare(alloc, &found, wanted);
     watcher.sees(Stage::Writing);

@@ -37,6 +37,7 @@ use text::sink::Sink;
 use text::source::Source;
 use verdicts::findings::{Findings, find_in};
 use verdicts::lifting::SolvedGame;
+use verdicts::proposing::least_found;
 use why::setting::{has_branch, heads, modality_texts, told_within, verdict};
 use why::visit::Visit;
 use why::walk::telling;
@@ -99,7 +100,8 @@ fn tell_read<W: Sink, U: Watcher + Sync, H: Threads + Wait + Clone + Copy + Drop
         (W.taken out.new) result }
     ensures cause { IfErr result (HaveCauses false false) }
 {
-    let found = find_in(rt, alloc, texts, &request.options, watcher)?;
+    let least = least_found(alloc, &texts, &request.options, watcher);
+    let found = find_in(rt, alloc, texts, least, &request.options, watcher)?;
     watcher.sees(Stage::MakingEvidence {
         vertices: found.solution.game.vertices(),
     });

@@ -1,5 +1,6 @@
 -- The evidence that the least progress tables give: all that each player wins.
 use Rattle.std.specs.Prelude.{◌≡◌, ℕ, ◌≤◌, List, length, Option, Some, None}
+use Rattle.game.specs.declared.player.Player.{Player}
 use Rattle.game.specs.declared.player.Player.TheVariants.{Even, Odd}
 use Rattle.game.specs.Game.{Game, Vertex, dual, vertex}
 use Rattle.measures.specs.Measure.{Counts, Measure, Top}
@@ -25,3 +26,8 @@ pub record IsEvenOf (g : Game) (e : Evidence) : Type 0 where
 -- Odd's: Even's of the dual game, read for Odd
 abbrev pub IsOddOf : Game → Evidence → Type 0
 IsOddOf g e = (e.player ≡ Odd) × IsEvenOf (dual g) (record { player = Even; entries = e.entries })
+
+-- that of this player
+abbrev pub IsBestOf : Player → Game → Evidence → Type 0
+IsBestOf Even g e = IsEvenOf g e
+IsBestOf Odd g e = IsOddOf g e

@@ -23,7 +23,11 @@ fn player_word(player: Player) -> &'static [u8]
     }
 }
 
-fn put_header<W: Sink>(player: Player, writer: &mut W) -> Result<(), WriteFault>
+/// Writes the first line of a player's evidence.
+///
+/// # Errors
+/// After a fault the writer holds a beginning of it.
+pub fn put_header<W: Sink>(player: Player, writer: &mut W) -> Result<(), WriteFault>
     ensures { Wrote (W.taken writer.old) (W.taken writer.new) result (header player ++ line_end) }
 {
     put_pieces(
@@ -45,8 +49,11 @@ fn move_piece(next: Option<u32>) -> Piece<'static>
     }
 }
 
-// Writes the line of a vertex.
-fn put_entry<W: Sink>(v: usize, view: EntryView<'_>, writer: &mut W) -> Result<(), WriteFault>
+/// Writes the line of a vertex.
+///
+/// # Errors
+/// After a fault the writer holds a beginning of it.
+pub fn put_entry<W: Sink>(v: usize, view: EntryView<'_>, writer: &mut W) -> Result<(), WriteFault>
     ensures { Wrote (W.taken writer.old) (W.taken writer.new) result (entry_line v record { move = view.entry.next; rank = view.entry.rank.now }) }
 {
     put_pieces(

@@ -194,7 +194,7 @@ arena_is_game l nodes form few =
 
 -- ---- priorities
 
-greatest_append : (xs ys : List Vertex) → greatest_of (xs ++ ys) ≡ max (greatest_of xs) (greatest_of ys)
+pub greatest_append : (xs ys : List Vertex) → greatest_of (xs ++ ys) ≡ max (greatest_of xs) (greatest_of ys)
 greatest_append [] ys = omega arith
 greatest_append (x ∷ xs) ys = let e = greatest_append xs ys in omega arith
 

@@ -8,9 +8,7 @@ use Rattle.std.proofs.lemmas.List.Elements.{All-from_recursion}
 use Rattle.game.specs.declared.player.Player.{Player}
 use Rattle.game.specs.Game.{Vertex, Game, IsAscending, IsVertex, IsGame, dual, greatest, greatest_of, opponent, vertex}
 use Rattle.game.proofs.Arenas.{vertices_more}
-
-abbrev pub turned : Vertex → Vertex
-turned v = record { owner = opponent v.owner; priority = v.priority + 1; successors = v.successors }
+pub use Rattle.game.specs.Lent.{turned}
 
 pub long_dual : (g : Game) → length (dual g).vertices ≡ length g.vertices
 long_dual g = length-map g.vertices turned

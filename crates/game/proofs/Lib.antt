@@ -7,3 +7,4 @@ pub mod Parts
 pub mod Placing
 pub mod Greatest
 pub mod Duals
+pub mod Lending

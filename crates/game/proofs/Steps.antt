@@ -240,13 +240,25 @@ vertex_is l n s set row node h k = λ i. record { owner = owner_of node.shape; p
     same (VariableNode binder) k = refl
 
 -- A modality has not more successors than there may be states.
-pub reached_few : (p : Transition → Bool) (row : List Transition) (n child sink : ℕ) → AllByRecursion (λ t. t.target < 1000000) row
+reached_few : (p : Transition → Bool) (row : List Transition) (n child sink : ℕ) → AllByRecursion (λ t. t.target < 1000000) row
     → length (or_else (map (λ t. place n t child) (picks p 0 row)) sink) ≤ 1000000
 reached_few p row n child sink h = few (picks p 0 row) (rising_length 0 1000000 (picks p 0 row) (omega arith) (picks_rising p 0 1000000 row h))
   where
     few : (xs : List ℕ) → 0 + length xs ≤ 1000000 → length (or_else (map (λ t. place n t child) xs) sink) ≤ 1000000
     few [] h = omega arith
     few (x ∷ xs) h = omega (arith, h, length-map xs (λ t. place n t child))
+
+-- Nor has any vertex.
+pub successors_few : (p : Transition → Bool) (row : List Transition) (n s : ℕ) (node : Node) → AllByRecursion (λ t. t.target < 1000000) row
+    → length (vertex_by n s (picks p 0 row) node).successors ≤ 1000000
+successors_few p row n s node h = few node.shape
+  where
+    few : (shape : Shape) → length (successors_by n s (picks p 0 row) shape) ≤ 1000000
+    few (ConstantNode flag) = omega arith
+    few (JunctionNode flag left right) = omega arith
+    few (ModalityNode flag a child) = reached_few p row n child (cond flag 1 0) h
+    few (FixpointNode flag child) = omega arith
+    few (VariableNode binder) = omega arith
 
 pub inside_below : (l : Numbered) (ts : List Transition) → l.system.states ≤ 1000000 → IsInside l ts → AllByRecursion (λ t. t.target < 1000000) ts
 inside_below l [] few i = tt

@@ -9,3 +9,4 @@ pub mod View
 pub mod Steps
 pub mod Refused
 pub mod Parts
+pub mod Lent

@@ -7,7 +7,8 @@ ghost use Rattle.calculus.specs.NodeView.{node_of};
 ghost use Rattle.calculus.specs.Normal.{normal_nodes};
 ghost use Rattle.calculus.specs.Taken.{AreSets, is_in};
 ghost use Rattle.game.specs.Game.{greatest};
-ghost use Rattle.game.specs.Arena.{arena, rows, vertex_of, or_else, place};
+ghost use Rattle.game.specs.Arena.{arena, rows, vertex_of, or_else, owner_of, place};
+ghost use Rattle.game.specs.Lent.{lent_vertex};
 ghost use Rattle.game.specs.Parts.{vertices_of_range, two_sinks};
 ghost use Rattle.game.specs.Steps.{IsRowOf, picks, vertex_by};
 ghost use Rattle.game.specs.Refused.{HasBuildRefusal};
@@ -17,6 +18,7 @@ use crate::gauge::Gauge;
 use crate::graph::{Game, GameBuilder};
 use crate::limits::MOST_VERTICES;
 use crate::player::Player;
+use crate::view::VertexView;
 use calculus::form::Normal;
 use calculus::label_sets::label_sets;
 use calculus::limits::{GREATEST_PRIORITY, MOST_NODES};
@@ -71,8 +73,11 @@ fn pick(
     Ok(())
 }
 
-// The transitions of a state, by target.
-fn by_target(row: &mut Vec<Transition>, lts: &Lts, state: u32) -> Result<(), AllocError>
+/// The transitions of a state, by target.
+///
+/// # Errors
+/// Want of memory, and nothing else.
+pub fn by_target(row: &mut Vec<Transition>, lts: &Lts, state: u32) -> Result<(), AllocError>
     requires { state < lts.now.system.states }
     ensures { OnOk result (IsRowOf lts.now state row.new.items) }
 {
@@ -84,6 +89,62 @@ fn by_target(row: &mut Vec<Transition>, lts: &Lts, state: u32) -> Result<(), All
     }
     row.sort_unstable_by_key(|transition| transition.target);
     Ok(())
+}
+
+// Puts these successors in the place of others.
+fn fill(reached: &mut Vec<u32>, successors: &[u32]) -> Result<(), AllocError>
+    ensures { OnOk result (reached.new.items ≡ successors.now) }
+{
+    reached.clear();
+    reached.extend_from_slice(successors)
+}
+
+/// Who owns the vertices of a node.
+pub fn node_owner(node: &Node) -> Player
+    ensures { result ≡ owner_of (node_of node.now).shape }
+{
+    match node.kind {
+        Kind::And(..) | Kind::Box(..) => Player::Odd,
+        _ => Player::Even,
+    }
+}
+
+/// The vertex of a state with a node, where these are the state's transitions, by target, and the set has the labels of which the node's action formula holds.
+/// The list is lent for its successors.
+///
+/// # Errors
+/// Want of memory, and nothing else.
+pub fn vertex_in<'a>(
+    reached: &'a mut Vec<u32>,
+    row: &[Transition],
+    set: &[bool],
+    nodes: u32,
+    state: u32,
+    node: &Node,
+) -> Result<VertexView<'a>, AllocError>
+    requires nodes { nodes ≤ MOST_NODES }
+    requires node { IsNode nodes (node_of node.now) }
+    requires state { state < 1000000 }
+    requires inside { AllByRecursion (λ t. t.target < 1000000) row.now }
+    ensures { IfOk result (λ x. lent_vertex x ≡ vertex_by nodes state (picks (is_in set.now) 0 row.now) (node_of node.now)) }
+{
+    let base = 2 + state * nodes;
+    match node.kind {
+        Kind::True => fill(reached, &[0])?,
+        Kind::False => fill(reached, &[1])?,
+        Kind::And(left, right) | Kind::Or(left, right) => fill(
+            reached,
+            &[base + left, base + right],
+        )?,
+        Kind::Dia(_, child) => pick(reached, row, set, nodes, child, 1)?,
+        Kind::Box(_, child) => pick(reached, row, set, nodes, child, 0)?,
+        Kind::Mu(child) | Kind::Nu(child) | Kind::Var(child) => fill(reached, &[base + child])?,
+    }
+    Ok(VertexView {
+        owner: node_owner(node),
+        priority: node.priority as u8,
+        successors: reached.as_slice(),
+    })
 }
 
 // One more vertex: that of a state with a node.
@@ -103,25 +164,8 @@ fn push_node(
     requires inside { AllByRecursion (λ t. t.target < 1000000) row.now }
     ensures { OnOk result (builder.new ≡ builder.old ++ vertex_by nodes state (picks (is_in set.now) 0 row.now) (node_of node.now) ∷ []) }
 {
-    let base = 2 + state * nodes;
-    let priority = node.priority as u8;
-    match node.kind {
-        Kind::True => builder.push(Player::Even, priority, &[0]),
-        Kind::False => builder.push(Player::Even, priority, &[1]),
-        Kind::And(left, right) => builder.push(Player::Odd, priority, &[base + left, base + right]),
-        Kind::Or(left, right) => builder.push(Player::Even, priority, &[base + left, base + right]),
-        Kind::Dia(_, child) => {
-            pick(reached, row, set, nodes, child, 1)?;
-            builder.push(Player::Even, priority, reached)
-        }
-        Kind::Box(_, child) => {
-            pick(reached, row, set, nodes, child, 0)?;
-            builder.push(Player::Odd, priority, reached)
-        }
-        Kind::Mu(child) | Kind::Nu(child) | Kind::Var(child) => {
-            builder.push(Player::Even, priority, &[base + child])
-        }
-    }
+    let vertex = vertex_in(reached, row, set, nodes, state, node)?;
+    builder.push(vertex.owner, vertex.priority, vertex.successors)
 }
 
 // The vertices of a state with each node.

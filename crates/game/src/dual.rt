@@ -1,7 +1,7 @@
 // The game with the players exchanged.
 
 ghost use Rattle.std.specs.Prelude.{◌≡◌, ◌≤◌, IfOk, IsOkUnless};
-ghost use Rattle.game.specs.Game.{dual as dual_of, greatest, opponent as opponent_of};
+ghost use Rattle.game.specs.Game.{dual as dual_of, greatest};
 
 use crate::error::BuildError;
 use crate::graph::{Game, GameBuilder};
@@ -14,15 +14,6 @@ pub fn greatest_priority(game: &Game) -> u32
     ensures { result ≡ greatest game.now }
 {
     game.greatest()
-}
-
-fn opponent(player: Player) -> Player
-    ensures { result ≡ opponent_of player }
-{
-    match player {
-        Player::Even => Player::Odd,
-        Player::Odd => Player::Even,
-    }
 }
 
 /// The other player owns each vertex, and each priority is one more, so that the other player wins where one did. The
@@ -38,7 +29,7 @@ pub fn dual(alloc: Global, game: &Game) -> Result<Game, BuildError>
     game.known();
     let mut builder = GameBuilder::new(alloc);
     for v in 0..game.vertices() {
-        let owner = opponent(game.owner(v));
+        let owner = game.owner(v).opponent();
         builder.push(owner, game.priority(v) + 1, game.successors(v))?;
     }
     Ok(builder.into_game())

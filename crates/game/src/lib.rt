@@ -13,3 +13,4 @@ pub mod name;
 pub mod observer;
 pub mod player;
 pub mod predecessors;
+pub mod view;

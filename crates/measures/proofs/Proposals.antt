@@ -1,19 +1,21 @@
 -- Good proposals are least: no progress table has less than their values.
 use Rattle.measures.proofs.Common.{◌≡◌, ℕ, zero, suc, ◌+◌, ◌-◌, ◌/◌, ◌<◌, ◌≤◌, ◌⊎◌, true, false, List, length, refl, sym, ap, subst, ◌∙◌, inl, inr}
 use Rattle.measures.proofs.Common.{arith, true≢false, Some, eqb_tells, leb_tells, get_or_past, Ordering, Less, Equal, Greater, is_le, is_lt}
-use Rattle.measures.proofs.Common.{nat_cmp, Player, Even, Odd, Vertex, Game, IsGame, greatest, vertex, priority_at, greatest_met, components, measure_cmp, Measure, Top}
-use Rattle.measures.proofs.Common.{Counts, IsAtMost, IsBelow, IsMeasure, IsProgress, IsTable, Reaches, is_odd, kept, value_at, IsLeastTable}
+use Rattle.measures.proofs.Common.{nat_cmp, Player, Even, Odd, Vertex, Game, IsGame, IsVertex, greatest, vertex, opponent, priority_at, greatest_met, components}
+use Rattle.measures.proofs.Common.{measure_cmp, Measure, Top, Counts, IsAtMost, IsBelow, IsMeasure, IsProgress, IsTable, Reaches, is_odd, kept, value_at, IsLeastTable}
+use Rattle.measures.proofs.Common.{AllZip, AllZip-long, IsBestFor, IsLiftAt, IsProg, IsStill, greater_of, length-map, map}
 use Rattle.std.proofs.Common.{◌^◌, div-mul-le_self}
 use Rattle.std.proofs.lemmas.Nat.{le-div, pow_pos, shr-shr}
 use Rattle.measures.specs.Measure.{digit_of, counted_at, cut}
-use Rattle.measures.specs.Proposal.{AreEnough, Falls, HasAllButOne, HasAsMuch, HeightFalls, IsGoodProposal, IsReason, IsRising}
-use Rattle.measures.specs.Proposal.{MatchUpTo, Proposal, counted_of, group_at, shift_at}
+use Rattle.measures.specs.Proposal.{AreEnough, HasAllButOne, HasAsMuch, HeightFalls, IsGoodProposal, IsReason, IsRising, MatchUpTo, Proposal, ReachesEnough}
+use Rattle.measures.specs.Proposal.{counted_of}
 use Rattle.measures.proofs.Components.{below_greatest, odd_down_long, kept_is}
 use Rattle.measures.proofs.Cuts.{below_between, below_counts, cut_all_below, cut_fewer, none_between_measures, digit_some, reaches_below, reaches_cut}
 use Rattle.measures.proofs.Cycles.{no_odd_cycle, odd_or_even, priority}
 use Rattle.measures.proofs.Levels.{level, no_even_cycle}
-use Rattle.measures.proofs.Lifts.{even_reaches, odd_reaches, value_measure}
-use Rattle.measures.proofs.Measures.{at_most_itself, at_most_or_below, at_most_trans, below_at_most, not_below}
+use Rattle.measures.proofs.Lifts.{best_for, even_reaches, odd_reaches, value_measure}
+use Rattle.measures.proofs.Lists.{all_from, all_got, zip_back, zip_made, zip_on}
+use Rattle.measures.proofs.Measures.{at_most_itself, at_most_or_below, at_most_trans, below_at_most, not_below, own_greater, prog}
 use Rattle.measures.proofs.NotBoth.{cycle, path_weaker}
 use Rattle.measures.proofs.Order.{compared}
 use Rattle.measures.proofs.Settling.{table_still}
@@ -38,23 +40,37 @@ coarser a b j k h le =
     subst (λ i. a / 2 ^ i ≤ b / 2 ^ i) e
     (subst (λ x. x ≤ b / 2 ^ (j + d)) (shr-shr a j d) (subst (λ y. a / 2 ^ j / 2 ^ d ≤ y) (shr-shr b j d) (least (a / 2 ^ j) (b / 2 ^ j) le)))
 
-rises : (c : Proposal) → IsRising c → (q p : ℕ) → p ≤ q → shift_at c p ≤ shift_at c q
-rises c rising zero p h = let e : p ≡ 0 = omega arith in subst (λ n. shift_at c p ≤ shift_at c n) e (omega arith)
+rises : (c : Proposal) → IsRising c → (q p : ℕ) → p ≤ q → c.shift p ≤ c.shift q
+rises c rising zero p h = let e : p ≡ 0 = omega arith in subst (λ n. c.shift p ≤ c.shift n) e (omega arith)
 rises c rising (suc q) p h = elim (eqb_tells p (suc q)) [
-  | inl w ↦ subst (λ n. shift_at c p ≤ shift_at c n) w.1 (omega arith)
+  | inl w ↦ subst (λ n. c.shift p ≤ c.shift n) w.1 (omega arith)
   | inr w ↦ (let n = w.1 in let a = rises c rising q p (omega arith) in let b = rising q in omega arith)
 ]
 
--- past the last of them shifts are the same
-pub risen : (c : Proposal) (n : ℕ) → length c.shifts ≤ n → ((p : ℕ) → p < n → shift_at c p ≤ shift_at c (suc p)) → IsRising c
-risen c n long first p = elim (leb_tells n p) [
-  | inl w ↦ (
-      let past = w.1 in
-      let a = get_or_past c.shifts p 63 (omega arith) in
-      let b = get_or_past c.shifts (suc p) 63 (omega arith) in
-      omega (arith, a, b))
-  | inr w ↦ first p w.1
-]
+-- ------------------------------------------------------------------ no lift raises a value that reaches enough
+
+module _ (g : Game) (game : IsGame g) (values : List Measure) (table : IsTable g values) (v : ℕ) (measure : IsMeasure g (value_at values v)) where
+  abbrev own : Measure
+  own = value_at values v
+
+  under : (x : Vertex) (o : Player) (progs : List Measure) (best : Measure) → AllZip (IsProg g x.priority) (map (value_at values) x.successors) progs
+      → IsBestFor o progs best → AreEnough (opponent o) (λ t. Reaches g x.priority (value_at values t) own) x.successors → IsAtMost best own
+  under x Even progs best zipped is enough =
+      let there = zip_on (IsProg g x.priority) (λ m. IsAtMost best m) (value_at values) x.successors progs enough.0 zipped is.1 enough.1 in
+      at_most_trans best there.0 own there.2 (there.1.least own measure enough.2)
+  under x Odd progs best zipped is enough =
+      let back = zip_back (IsProg g x.priority) (value_at values) x.successors progs best zipped is.0 in
+      back.2.least own measure (enough back.0 back.1)
+
+  still : ReachesEnough g values v → IsStill g values v
+  still (x, at, enough) =
+      let some : 1 ≤ length x.successors = (all_got (IsVertex (length g.vertices)) g.vertices v x game.vertices at).some in
+      let made = zip_made (IsProg g x.priority) (value_at values) x.successors (λ t. prog g x.priority (value_at values t) (value_measure g values table.1 t)) in
+      let long : length made.0 ≡ length x.successors = AllZip-long (IsProg g x.priority) (map (value_at values) x.successors) made.0 made.1
+      ∙ length-map x.successors (value_at values) in
+      let best = best_for x.owner made.0 (omega (arith, some, long)) in
+      subst (IsLiftAt g values v) (own_greater own best.0 (under x x.owner made.0 best.0 made.1 best.1 enough))
+      (x, at, (made.0, best.0, made.1, best.1, refl))
 
 -- ------------------------------------------------------------------ a progress table beside the values
 
@@ -128,10 +144,10 @@ module _ (c : Proposal) (game : IsGame c.game) (progress : IsProgress c.game c.v
     record IsTied (u t : ℕ) : Type 0 where
       before : priority g u < counted_at g k
       at_most : IsAtMost (cut k (high u)) (cut k (high t))
-      falls : IsBelow (cut k (high u)) (cut k (high t)) ⊎ Falls c k (priority g u) u t
+      falls : IsBelow (cut k (high u)) (cut k (high t)) ⊎ HeightFalls c k (priority g u) u t
 
     tied : (u t : ℕ) → priority g u < counted_at g k → HasAsMuch c k (priority g u) u t → IsTied u t
-    tied u t before much = elim (up_to (cut k (high u)) (cut k (high t)) (Unit {0}) (Falls c k (priority g u) u t) much) [
+    tied u t before much = elim (up_to (cut k (high u)) (cut k (high t)) (Unit {0}) (HeightFalls c k (priority g u) u t) much) [
       | inl w ↦ record { before = before; at_most = below_at_most (cut k (high u)) (cut k (high t)) w; falls = inl w }
       | inr w ↦ record { before = before; at_most = w.0; falls = inr w.1 }
     ]
@@ -140,7 +156,7 @@ module _ (c : Proposal) (game : IsGame c.game) (progress : IsProgress c.game c.v
     how u t reason =
         let p = priority g u in
         let told : (o : Ordering) → nat_cmp p (counted_at g k) ≡ o → MatchUpTo o (HasAsMuch c k p u t) (HasAllButOne c.values k u t) =
-        λ o e. subst (λ o. MatchUpTo o (HasAsMuch c k p u t) (HasAllButOne c.values k u t)) e reason.1 in
+        λ o e. subst (λ o. MatchUpTo o (HasAsMuch c k p u t) (HasAllButOne c.values k u t)) e reason in
         elim (compared p (counted_at g k)) [
           | inl w ↦ inl (tied u t w.1 (told Less w.0))
           | inr w ↦ elim w [ inl e ↦ inr (e.1, told Equal e.0) | inr b ↦ absurd (told Greater b.0) ]
@@ -179,7 +195,7 @@ module _ (c : Proposal) (game : IsGame c.game) (progress : IsProgress c.game c.v
           | inl h ↦ absurd (none j v e h)
           | inr l ↦ l
         ]) in
-        let r = (good.vertices v (inside k v above)).1 k within some in
+        let r = (good.vertices v (inside k v above)).reasons k within some in
         let next = go v r.0 r.0.owner above r.1 refl r.2 in
         let step : Step v next.0 = record {
           above = above;
@@ -191,17 +207,13 @@ module _ (c : Proposal) (game : IsGame c.game) (progress : IsProgress c.game c.v
     -- ---------------------------------------------------------------- what never rises along steps
 
     record Le (a b : ℕ) : Type 0 where
-      group : group_at c a ≤ group_at c b
       lesser : IsAtMost (cut k (low a)) (cut k (low b))
       value : IsAtMost (cut k (low b)) (cut k (low a)) → IsAtMost (cut k (high b)) (cut k (high a))
-      before : IsAtMost (cut k (low b)) (cut k (low a)) → priority g a < counted_at g k → priority g b < counted_at g k
 
     itself : (u : ℕ) → Le u u
     itself u = record {
-      group = omega arith;
       lesser = at_most_itself (cut k (low u));
       value = λ h. at_most_itself (cut k (high u));
-      before = λ h l. l;
     }
 
     trans : (a b d : ℕ) → Le a b → Le b d → Le a d
@@ -209,10 +221,8 @@ module _ (c : Proposal) (game : IsGame c.game) (progress : IsProgress c.game c.v
         let first = at_most_trans (cut k (low b)) (cut k (low d)) (cut k (low a)) i.lesser in
         let second = λ (back : IsAtMost (cut k (low d)) (cut k (low a))). at_most_trans (cut k (low d)) (cut k (low a)) (cut k (low b)) back h.lesser in
         record {
-          group = (let m = h.group in let n = i.group in omega arith);
           lesser = at_most_trans (cut k (low a)) (cut k (low b)) (cut k (low d)) h.lesser i.lesser;
           value = λ back. at_most_trans (cut k (high d)) (cut k (high b)) (cut k (high a)) (i.value (second back)) (h.value (first back));
-          before = λ back l. i.before (second back) (h.before (first back) l);
         }
 
     tied_by : (u t : ℕ) → Step u t → IsAtMost (cut k (low u)) (cut k (low t)) → IsTied u t
@@ -223,10 +233,8 @@ module _ (c : Proposal) (game : IsGame c.game) (progress : IsProgress c.game c.v
 
     falls : (u t : ℕ) → Step u t → Le t u
     falls u t s = record {
-      group = s.reason.0;
       lesser = low_falls u t s;
       value = λ back. (tied_by u t s back).at_most;
-      before = λ back l. (tied_by u t s back).before;
     }
 
     record Flat (u t : ℕ) : Type 0 where
@@ -240,10 +248,7 @@ module _ (c : Proposal) (game : IsGame c.game) (progress : IsProgress c.game c.v
           reaches = s.reaches;
           height = elim tied.falls [
             | inl b ↦ absurd (not_below (cut k (high u)) (cut k (high t)) b (l.value (low_falls u t s)))
-            | inr f ↦ elim f [
-              | inl n ↦ (let m = l.group in absurd (omega arith))
-              | inr rest ↦ elim rest [ inl h ↦ h | inr past ↦ (let before = l.before (low_falls u t s) tied.before in absurd (omega arith)) ]
-            ]
+            | inr f ↦ f
           ];
         }
 
@@ -258,7 +263,7 @@ module _ (c : Proposal) (game : IsGame c.game) (progress : IsProgress c.game c.v
         ]
       where
         weakly : (q u t : ℕ) → Flat u t → priority g u ≤ q → counted_of c k q t ≤ counted_of c k q u
-        weakly q u t s h = coarser _ _ (shift_at c (priority g u)) (shift_at c q) (rises c good.rising q (priority g u) h)
+        weakly q u t s h = coarser _ _ (c.shift (priority g u)) (c.shift q) (rises c good.rising q (priority g u) h)
             (elim s.height [ inl l ↦ omega arith | inr w ↦ (let e = w.0 in omega arith) ])
 
         strictly : (u t : ℕ) → Flat u t → is_odd (priority g u) ≡ false → counted_of c k (priority g u) t < counted_of c k (priority g u) u
@@ -271,13 +276,14 @@ module _ (c : Proposal) (game : IsGame c.game) (progress : IsProgress c.game c.v
       empty_below : (k j : ℕ) → suc k ≡ suc j → ((v : ℕ) → Above k v → ⊥) → (v : ℕ) → Above j v → ⊥
       empty_below k j e = let same : k ≡ j = omega arith in subst (λ i. ((v : ℕ) → Above k v → ⊥) → (v : ℕ) → Above i v → ⊥) same (λ h. h)
 
-  under : (v : ℕ) → IsAtMost (high v) (low v)
-  under v = elim (at_most_or_below (low v) (high v)) [
+  pub least_under : (v : ℕ) → IsAtMost (high v) (low v)
+  least_under v = elim (at_most_or_below (low v) (high v)) [
     | inl b ↦ absurd (empty (length (components g)) (omega arith) v (cut_all_below g (low v) (high v) (low_measure v) (high_measure v) b))
     | inr l ↦ l
   ]
 
-pub good_least : (c : Proposal) → IsGame c.game → IsTable c.game c.values → IsGoodProposal c → IsLeastTable c.game c.values
-good_least c game table good =
-    let progress = table_still c.game c.values table (λ v h. (good.vertices v h).0) in
-    record { progress = progress; under = λ v h other is. under c game progress good other is v }
+pub good_least : (c : Proposal) → IsGame c.game → IsGoodProposal c → IsLeastTable c.game c.values
+good_least c game good =
+    let table : IsTable c.game c.values = (good.long, all_from (IsMeasure c.game) c.values Top (λ v h. (good.vertices v (omega (arith, good.long, h))).measure)) in
+    let progress = table_still c.game c.values table (λ v h. let at = good.vertices v h in still c.game game c.values table v at.measure at.reaches) in
+    record { progress = progress; under = λ v h other is. least_under c game progress good other is v }

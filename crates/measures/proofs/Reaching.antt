@@ -1,8 +1,7 @@
 -- Whether a measure reaches another, by comparing their first counts.
-use Rattle.measures.proofs.Common.{◌≡◌, ◌≢◌, ◌↔◌, ℕ, ◌-◌, ◌/◌, ◌%◌, Bool, false, List, length, take, refl, sym, ap, subst, ◌∙◌, inl, inr, arith, IsTrue, MatchBool}
-use Rattle.measures.proofs.Common.{Ordering, is_le, is_lt, nat_cmp, slice_cmp, Game, Measure, Counts, Top, IsAtMost, IsBelow, IsProg, Reaches, components, is_odd}
+use Rattle.measures.proofs.Common.{◌≡◌, ◌≢◌, ◌↔◌, ℕ, ◌-◌, ◌/◌, Bool, false, List, length, take, refl, sym, ap, subst, ◌∙◌, inl, inr, arith, IsTrue, MatchBool}
+use Rattle.measures.proofs.Common.{Game, Measure, Counts, Top, IsAtMost, IsBelow, IsProg, Reaches, components, is_odd}
 use Rattle.measures.proofs.Common.{kept, is_top_of, measure_of}
-use Rattle.measures.proofs.Carry.{even_is, odd_is}
 use Rattle.measures.proofs.Components.{kept_is}
 use Rattle.measures.proofs.Measures.{at_most_or_below, reaches_up}
 
@@ -28,17 +27,12 @@ module _ (g : Game) (p k w : ℕ) (c d : List ℕ) (m r : Measure) (first : Coun
   carried : (b : Bool) → (IsTrue b ↔ MatchBool (is_odd p) Below AtMost) → IsTrue b ↔ Reaches g p m r
   carried b h = subst (λ (n : Measure). IsTrue b ↔ Reaches g p n r) first (subst (λ (n : Measure). IsTrue b ↔ Reaches g p (Counts c) n) second h)
 
-  pub even_reaches_is : p % 2 ≡ 0 → (b : Bool) (o : Ordering) → b ≡ is_le o → o ≡ slice_cmp nat_cmp (take k c) (take k d) → IsTrue b ↔ Reaches g p m r
-  even_reaches_is even b o e f =
-      let q : b ≡ is_le (slice_cmp nat_cmp (take (kept g p) c) (take (kept g p) d)) = e
-      ∙ (ap is_le f ∙ ap (λ n. is_le (slice_cmp nat_cmp (take n c) (take n d))) kept_here) in
-      carried b (subst (λ (z : Bool). IsTrue b ↔ MatchBool z Below AtMost) (sym (even_is p even)) ((λ h. subst IsTrue q h), (λ h. subst IsTrue (sym q) h)))
-
-  pub odd_reaches_is : p % 2 ≢ 0 → (b : Bool) (o : Ordering) → b ≡ is_lt o → o ≡ slice_cmp nat_cmp (take k c) (take k d) → IsTrue b ↔ Reaches g p m r
-  odd_reaches_is odd b o e f =
-      let q : b ≡ is_lt (slice_cmp nat_cmp (take (kept g p) c) (take (kept g p) d)) = e
-      ∙ (ap is_lt f ∙ ap (λ n. is_lt (slice_cmp nat_cmp (take n c) (take n d))) kept_here) in
-      carried b (subst (λ (z : Bool). IsTrue b ↔ MatchBool z Below AtMost) (sym (odd_is p odd)) ((λ h. subst IsTrue q h), (λ h. subst IsTrue (sym q) h)))
+  pub reaches_is : (b : Bool) (x y : List ℕ) → x ≡ take k c → y ≡ take k d
+      → (IsTrue b ↔ MatchBool (is_odd p) (IsBelow (Counts x) (Counts y)) (IsAtMost (Counts x) (Counts y))) → IsTrue b ↔ Reaches g p m r
+  reaches_is b x y e f h =
+      carried b (subst (λ (z : List ℕ). IsTrue b ↔ MatchBool (is_odd p) (IsBelow (Counts z) (Counts (take (kept g p) d))) (IsAtMost (Counts z) (Counts (take (kept g p) d))))
+      (e ∙ ap (λ n. take n c) kept_here) (subst (λ (z : List ℕ). IsTrue b ↔ MatchBool (is_odd p) (IsBelow (Counts x) (Counts z)) (IsAtMost (Counts x) (Counts z)))
+      (f ∙ ap (λ n. take n d) kept_here) h))
 
 -- what doesn't reach is less than what the vertex asks for
 pub not_reached : (g : Game) (p : ℕ) (m own r : Measure) → IsProg g p m r → (Reaches g p m own → ⊥) → IsBelow own r

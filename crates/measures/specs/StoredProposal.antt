@@ -1,14 +1,72 @@
--- How proposals are stored.
-use Rattle.std.specs.Prelude.{◌≡◌, ℕ, List, length}
-use Rattle.game.specs.Game.{IsGame}
-use Rattle.measures.specs.Progress.{IsTable}
-use Rattle.measures.specs.Progs.{bounds}
-use Rattle.measures.specs.Proposal.{Proposal}
+-- How proposals of both players are stored, and how they are read.
+use Rattle.std.specs.Prelude.{ℕ, zero, suc, ◌+◌, ◌*◌, ◌%◌, ◌/◌, ◌^◌, ◌≤◌, List, map, min, slice_index_or, if◌then◌else◌}
+use Rattle.std.specs.List.{AllZip}
+use Rattle.game.specs.declared.player.Player.{Player}
+use Rattle.game.specs.declared.player.Player.TheVariants.{Even, Odd}
+use Rattle.game.specs.Game.{Game, count, dual}
+use Rattle.measures.specs.Measure.{Counts, Measure, Reaches, Top, components, is_odd}
+use Rattle.measures.specs.Progress.{value_at}
+use Rattle.measures.specs.Proposal.{IsReason, Proposal}
+use Rattle.measures.specs.declared.field.CountField.{CountField}
+use Rattle.measures.specs.declared.proposal.Demand.{Demand}
+use Rattle.measures.specs.declared.proposal.Demand.TheVariants.{Reach, Reason}
+use Rattle.measures.specs.declared.proposal.PlayerLayout.{PlayerLayout}
+use Rattle.measures.specs.declared.proposal.Proposals.{Proposals}
 
--- a proposal that is stored with the bounds of its game's counts, in rows of so many counts
-pub record IsStoredProposal (c : Proposal) (limits : List ℕ) (width : ℕ) : Type 0 where
-  pub game : IsGame c.game
-  pub bounded : limits ≡ bounds c.game
-  pub wide : width ≡ length limits
-  pub table : IsTable c.game c.values
-  pub groups_long : length c.groups ≡ length c.game.vertices
+-- The game that a player's measures are of: Odd's are those of the dual.
+abbrev pub game_for : Player → Game → Game
+game_for Even g = g
+game_for Odd g = dual g
+
+-- An odd number says that Odd wins.
+abbrev pub winner_of : ℕ → Player
+winner_of n = if is_odd n then Odd else Even
+
+-- what a number of 64 bits has in a field: what is left of it, shifted to the left and then to the right
+abbrev pub count_in : CountField → ℕ → ℕ
+count_in field n = (n * 2 ^ (field.left % 64) % 2 ^ 64 / 2 ^ (field.right % 64)) % 2 ^ 32
+
+-- the fields' counts for the player who is said to win, and top for the other
+abbrev pub value_if : Player → Player → List CountField → ℕ → Measure
+value_if Even Even fields n = Counts (map (λ field. count_in field n) fields)
+value_if Odd Odd fields n = Counts (map (λ field. count_in field n) fields)
+value_if Even Odd fields n = Top
+value_if Odd Even fields n = Top
+
+abbrev pub layout_of : Player → Proposals → PlayerLayout
+layout_of Even c = c.even
+layout_of Odd c = c.odd
+
+abbrev pub value_of : Player → PlayerLayout → ℕ → Measure
+value_of player layout n = value_if player (winner_of n) layout.fields.items n
+
+-- the measures that are proposed for a player
+abbrev pub values_of : Player → Proposals → List Measure
+values_of player c = map (value_of player (layout_of player c)) c.numbers.items
+
+-- At digit 0 it is the number of the vertex, and else what stands in the vertex's row of heights.
+abbrev pub height_in : Proposals → (digit v : ℕ) → ℕ
+height_in c zero v = slice_index_or c.numbers.items v 0
+height_in c (suc k) v = slice_index_or c.heights.items (v * c.width + k) 0
+
+-- a shift is 63 at most, and 63 past the last
+abbrev pub shift_in : PlayerLayout → ℕ → ℕ
+shift_in layout p = min (slice_index_or layout.shifts p 63) 63
+
+-- the proposal of a player's measures in this game
+abbrev pub proposal_in : Player → Proposals → Game → Proposal
+proposal_in player c g = record {
+  game = g;
+  values = values_of player c;
+  height = height_in c;
+  shift = shift_in (layout_of player c);
+}
+
+-- There is a bound for each component of the game, and none is greater than the number of vertices of its priority.
+abbrev pub AreBoundsIn : Game → List ℕ → Type 0
+AreBoundsIn g bounds = AllZip (λ bound p. bound ≤ count g p) bounds (components g)
+
+-- From v, a vertex of this priority, on to t: the value of v reaches that of t, or the edge is a reason at a digit.
+abbrev pub Meets : Proposal → Demand → (p v t : ℕ) → Type 0
+Meets c Reach p v t = Reaches c.game p (value_at c.values t) (value_at c.values v)
+Meets c (Reason digit) p v t = IsReason c digit p v t

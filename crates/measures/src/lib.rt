@@ -2,6 +2,7 @@
 #![tactic(auto)]
 
 pub mod bounds;
+pub mod field;
 pub mod measure;
 mod pending;
 pub mod progs;

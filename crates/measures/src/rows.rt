@@ -1,14 +1,13 @@
 // The measures of many vertices, in one list of counts.
 
 ghost use Rattle.std.specs.Prelude.{◌≡◌, ◌<◌, ◌≤◌, ◌↔◌, ◌+◌, ◌-◌, ◌*◌, ◌++◌, drop, length, map, replicate, slice_set, take, IfOk, IsTrue};
-ghost use Rattle.measures.specs.Measure.{Counts, Top, components, cut, digit_of, measure_cmp};
+ghost use Rattle.measures.specs.Measure.{Counts, Top, components, measure_cmp};
 ghost use Rattle.measures.specs.Progress.{IsBestFor, IsTable, value_at};
-ghost use Rattle.measures.specs.Proposal.{HasAllButOne};
 ghost use Rattle.measures.specs.Settling.{IsStill};
 ghost use Rattle.std.specs.List.{AllByRecursion};
 ghost use Rattle.measures.specs.View.{HasWidth, ReachesAt, Rows, is_top_of, measure_of};
 
-use crate::measure::{COMPONENTS, Measure, compare, compare_counts};
+use crate::measure::{COMPONENTS, Measure, compare, counts_reach};
 use crate::progs::is_better;
 use game::graph::Game;
 use game::limits::MOST_VERTICES;
@@ -53,13 +52,6 @@ impl MeasureRows {
             tops: vec![in alloc; false; length]?,
             counts: vec![in alloc; 0; length * width]?,
         })
-    }
-
-    /// How many counts each measure has.
-    pub(crate) fn width(&self) -> usize
-        ensures { result ≡ self.now.width }
-    {
-        self.width
     }
 
     #[tactic(auto, using(crate::proofs::Stored::top_is, crate::proofs::Stored::long_is))]
@@ -128,56 +120,11 @@ impl MeasureRows {
             return false;
         }
         let kept = self.width.saturating_sub(priority as usize / 2);
-        let order = compare_counts(&self.counts(next)[..kept], &self.counts(v)[..kept]);
-        if priority % 2 == 0 {
-            order.is_le()
-        } else {
-            order.is_lt()
-        }
-    }
-
-    /// Compares the measures of two places as far as their first counts.
-    pub(crate) fn compare_first(&self, v: usize, u: usize, kept: usize) -> Ordering
-        requires first { v < length self.now.values }
-        requires second { u < length self.now.values }
-        requires kept { kept ≤ self.now.width }
-        ensures { result ≡ measure_cmp (cut kept (value_at self.now.values v)) (cut kept (value_at self.now.values u)) }
-    {
-        compare(
-            self.is_top(v),
+        counts_reach(
+            &self.counts(next)[..kept],
             &self.counts(v)[..kept],
-            self.is_top(u),
-            &self.counts(u)[..kept],
+            priority,
         )
-    }
-
-    /// A digit of the measure of a place.
-    pub(crate) fn digit(&self, v: usize, digit: usize) -> u32
-        requires vertex { v < length self.now.values }
-        requires digit { digit ≤ self.now.width }
-        ensures { result ≡ digit_of (value_at self.now.values v) digit }
-    {
-        if digit == 0 {
-            u32::from(self.is_top(v))
-        } else if self.is_top(v) {
-            0
-        } else {
-            self.counts(v)[digit - 1]
-        }
-    }
-
-    /// Whether before a digit there is more at the next place, or as much and at it at most one less.
-    pub(crate) fn has_all_but_one(&self, v: usize, next: usize, digit: usize) -> bool
-        requires place { v < length self.now.values }
-        requires next { next < length self.now.values }
-        requires digit { digit ≤ self.now.width }
-        ensures { IsTrue result ↔ HasAllButOne self.now.values digit v next }
-    {
-        match self.compare_first(v, next, digit.saturating_sub(1)) {
-            Ordering::Less => true,
-            Ordering::Equal => self.digit(v, digit) <= self.digit(next, digit).saturating_add(1),
-            Ordering::Greater => false,
-        }
     }
 
     /// Whether no lift raises a vertex of a game whose vertices have these measures.

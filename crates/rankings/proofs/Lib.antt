@@ -2,9 +2,11 @@ mod Cycles
 mod Winning
 mod Places
 mod Ranked
-mod Rows
+pub mod Rows
 mod Shifts
-mod Steps
+pub mod Steps
 mod Goodness
 mod Lent
 mod Always
+mod Bounding
+mod Proposed

@@ -5,3 +5,4 @@ pub mod Slopes
 pub mod Stored
 pub mod Laws
 pub mod Spans
+pub mod Least

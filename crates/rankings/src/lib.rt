@@ -4,6 +4,7 @@
 ghost use Rattle.rankings.specs.Laws.{RankingDecides};
 
 mod column;
+pub mod least;
 mod nodes;
 mod numbers;
 pub mod sheet;

@@ -5,18 +5,17 @@ ghost use Rattle.std.specs.Prelude.{◌<◌};
 
 use crate::common::{counted, holds};
 use crate::questions::{Question, roll_nested_question, roll_question};
-use arena_search::measures::{Measures, Side, least_measures};
+use arena_search::measures::least_measures;
 use arena_search::ranking::{GuessedRanking, ranking};
-use calculus::limits::GREATEST_PRIORITY;
-use game::dual::{dual, greatest_priority};
-use game::graph::Game;
 use meaning::plain::plain_states;
+use measures::proposal::Proposals;
+use rankings::least::are_least;
 use rankings::sheet::Sheet;
 use rankings::winners::root_winners;
 use samples::dice::Dice;
 use std::process::Abort;
 use std::thread::Threads;
-use verdicts::proposing::guessed_table;
+use verdicts::proposing::proposals_of;
 
 // How many systems and formulas each of two tests has, how many whose binders alternate three times or four, and how many with five binders or six.
 const QUESTIONS: u32 = 5_000;
@@ -24,6 +23,9 @@ const QUESTIONS: u32 = 5_000;
 const NESTED: u32 = 400;
 
 const DEEP: u32 = 60;
+
+// How many have measures that are made wrong.
+const WRONG: u32 = 200;
 
 fn sheet_of(rt: &impl Abort, found: GuessedRanking) -> Sheet {
     let sheet = Sheet::of(found.columns, found.even_shifts, found.odd_shifts);
@@ -56,25 +58,13 @@ fn is_ranked(rt: &(impl Abort + Threads + AllocGlobal + Sync), question: &Questi
     }
 }
 
-// Whether what is found of a player's measures is the least progress table of a game.
-fn is_least(rt: &impl AllocGlobal, measures: &Measures, side: Side, game: &Game) -> bool {
-    guessed_table(rt.alloc(), measures, side, game).is_some()
-}
-
-fn dual_of(rt: &(impl Abort + AllocGlobal), game: &Game) -> Game {
-    holds!(rt; greatest_priority(game) <= GREATEST_PRIORITY);
-    dual(rt.alloc(), game).expect(rt, "memory")
-}
-
 // Whether measures of a question are found. If so, they are the least ones of both players.
 fn is_measured(rt: &(impl Abort + AllocGlobal), question: &Question) -> bool {
     match least_measures(rt.alloc(), &question.lts, &question.form) {
-        Some(measures) => {
-            let dual = dual_of(rt, &question.game);
-            holds!(rt; is_least(rt, &measures, Side::Even, &question.game));
-            holds!(rt; is_least(rt, &measures, Side::Odd, &dual));
-            drop(dual);
-            drop(measures);
+        Some(guess) => {
+            let proposals = proposals_of(guess);
+            holds!(rt; are_least(rt.alloc(), &question.lts, &question.form, &proposals));
+            drop(proposals);
             true
         }
         None => false,
@@ -154,4 +144,104 @@ fn ask_nested(
 fn rankings_and_measures_of_nested_formulas_are_good(rt: HostRuntime) {
     ask_nested(&rt, 30, NESTED, 3);
     ask_nested(&rt, 31, DEEP, 5);
+}
+
+// What is proposed for a question, if its measures are found.
+fn proposed(rt: &(impl Abort + AllocGlobal), question: &Question) -> Option<Proposals> {
+    let guess = least_measures(rt.alloc(), &question.lts, &question.form)?;
+    Some(proposals_of(guess))
+}
+
+// How proposals are made wrong.
+#[derive(Clone, Copy)]
+enum WrongMeasure {
+    /// The other player wins a vertex.
+    Winner,
+    /// A count is one more, or the greatest one.
+    More,
+    /// A count is one less, or the greatest one.
+    Less,
+}
+
+// One in the field of the winner's last count.
+fn unit(proposals: &Proposals, number: u64) -> u64 {
+    let layout = if number % 2 == 1 {
+        &proposals.odd
+    } else {
+        &proposals.even
+    };
+    match layout.fields.as_slice().last() {
+        Some(field) => 1_u64.wrapping_shl(field.right.wrapping_sub(field.left)),
+        None => 0,
+    }
+}
+
+fn make_wrong(proposals: &mut Proposals, v: usize, how: WrongMeasure) {
+    if v < proposals.numbers.len() {
+        let number = proposals.numbers[v];
+        let one = unit(proposals, number);
+        proposals.numbers[v] = match how {
+            WrongMeasure::Winner if number % 2 == 1 => number.wrapping_sub(1),
+            WrongMeasure::Winner => number.wrapping_add(1),
+            WrongMeasure::More => number.wrapping_add(one),
+            WrongMeasure::Less => number.wrapping_sub(one),
+        };
+    }
+}
+
+// Proposals of a question are refused once the number of a vertex was made wrong.
+fn is_refused(
+    rt: &(impl Abort + AllocGlobal),
+    question: &Question,
+    dice: &mut Dice,
+    how: WrongMeasure,
+) {
+    if let Some(mut proposals) = proposed(rt, question) {
+        let vertices = u32::try_from(proposals.numbers.len()).unwrap_or(3);
+        let v = 2 + dice.roll(vertices.saturating_sub(2).max(1));
+        make_wrong(&mut proposals, v as usize, how);
+        holds!(rt; !are_least(rt.alloc(), &question.lts, &question.form, &proposals));
+        drop(proposals);
+    }
+}
+
+// Measures that aren't the least ones are no good proposal, since there is one least table only.
+#[test]
+fn wrong_measures_are_refused(rt: HostRuntime) {
+    let mut dice = Dice::new(33);
+    for _ in 0..WRONG {
+        let states = 1 + dice.roll(12);
+        let question = roll_nested_question(&rt, &mut dice, states, 1);
+        for how in [WrongMeasure::Winner, WrongMeasure::More, WrongMeasure::Less] {
+            is_refused(&rt, &question, &mut dice, how);
+        }
+        drop(question);
+    }
+}
+
+// Whether the proposals of a question are refused without their heights.
+fn needs_heights(rt: &(impl Abort + AllocGlobal), question: &Question) -> bool {
+    match proposed(rt, question) {
+        Some(mut proposals) => {
+            proposals.heights.clear();
+            let is_least = are_least(rt.alloc(), &question.lts, &question.form, &proposals);
+            drop(proposals);
+            !is_least
+        }
+        None => false,
+    }
+}
+
+// Where the play goes round and what it counts stays the same, something has to fall.
+#[test]
+fn heights_are_needed(rt: HostRuntime) {
+    let mut dice = Dice::new(34);
+    let mut needed = 0_u32;
+    for _ in 0..WRONG {
+        let states = 1 + dice.roll(12);
+        let question = roll_nested_question(&rt, &mut dice, states, 3);
+        needed = needed.saturating_add(u32::from(needs_heights(&rt, &question)));
+        drop(question);
+    }
+    holds!(&rt; needed > 0);
 }

@@ -1,5 +1,5 @@
 -- What a check by a game finds out.
-use Rattle.std.specs.Prelude.{◌≡◌, ℕ, ◌↔◌, IsTrue, length}
+use Rattle.std.specs.Prelude.{◌≡◌, ℕ, ◌↔◌, IfSome, IsTrue, List, Some, length}
 use Rattle.std.specs.Arc.{arc_value}
 use Rattle.systems.specs.System.{System}
 use Rattle.calculus.specs.Tree.{Formula}
@@ -7,8 +7,14 @@ use Rattle.calculus.specs.Closed.{closed_formula}
 use Rattle.calculus.specs.Meaning.{MarksOf}
 use Rattle.calculus.specs.Normal.{normal_nodes}
 use Rattle.calculus.specs.Rules.{nodes_with}
-use Rattle.game.specs.Game.{Game}
+use Rattle.calculus.specs.Nodes.{Node}
+use Rattle.game.specs.declared.player.Player.TheVariants.{Even, Odd}
+use Rattle.game.specs.Game.{Game, dual}
+use Rattle.game.specs.Arena.{arena}
 use Rattle.game.specs.Wins.{OddWins, Wins}
+use Rattle.measures.specs.Progress.{IsLeastTable}
+use Rattle.measures.specs.StoredProposal.{values_of}
+use Rattle.measures.specs.declared.proposal.Proposals.{Proposals}
 use Rattle.evidence.specs.Best.{IsEvenOf, IsOddOf}
 use Rattle.evidence.specs.Evidence.{IsGood, has}
 use Rattle.verdicts.specs.declared.lifting.SolvedGame.{SolvedGame}
@@ -17,7 +23,10 @@ use Rattle.verdicts.specs.declared.lifting.Winners.TheVariants.{Table, Marks as 
 use Rattle.verdicts.specs.declared.findings.Findings.{Findings}
 use Rattle.verdicts.specs.declared.findings.GameToSolve.{GameToSolve}
 use Rattle.evidence.specs.declared.pair.EvidencePair.{EvidencePair}
-use Rattle.requests.specs.Check.{Way, ByGame, AreMarks, IsArenaOf}
+use Rattle.verdicts.specs.declared.proposing.LeastFound.{LeastFound}
+use Rattle.calculus.specs.declared.priorities.Priorities.{Priorities}
+use Rattle.workers.specs.declared.team.BoardKind.{BoardKind}
+use Rattle.requests.specs.Check.{Way, ByGame, AreMarks, HasGame, IsArenaOf}
 use Rattle.requests.specs.Solver.{FitsBoard}
 
 -- The game is that of the system and the formula's normal form, and is solved, over the board that was asked for, if one was
@@ -26,6 +35,18 @@ pub record IsSolvedGame (l : System) (f : Formula) (s : SolvedGame) : Type 0 whe
   pub game : IsArenaOf s.priorities l f (arc_value s.game)
   pub board : FitsBoard s.board (arc_value s.game)
   pub settled : s.settled.game ≡ arc_value s.game
+
+-- They are the least progress tables of both players in the arena of the system and these nodes.
+pub record AreLeastOf (l : System) (nodes : List Node) (c : Proposals) : Type 0 where
+  pub even : IsLeastTable (arena l nodes) (values_of Even c)
+  pub odd : IsLeastTable (dual (arena l nodes)) (values_of Odd c)
+
+-- The form is the formula's, the arena is within the limits, its least measures are found, and no board is asked for that could be refused.
+pub record IsLeastFound (rule : Priorities) (board : BoardKind) (l : System) (f : Formula) (x : LeastFound) : Type 0 where
+  pub within : HasGame rule l f
+  pub fits : (g : Game) → FitsBoard (Some board) g
+  pub form : normal_nodes x.form ≡ nodes_with rule f
+  pub least : AreLeastOf l (nodes_with rule f) x.proposals
 
 -- They are the winners of the game.
 abbrev pub AreWinnersOf : Game → Winners → Type 0
@@ -46,10 +67,11 @@ formula_found x = closed_formula x.texts.value.formula
 abbrev pub way_in : Findings → Way
 way_in x = ByGame x.solution.priorities x.solution.board
 
--- The game is solved, and the marks are found.
+-- The game is solved, the marks are found, and measures that are kept are least.
 pub record AreFindings (x : Findings) : Type 0 where
   pub solution : IsSolvedGame (system_of x) (formula_found x) x.solution
   pub marks : AreMarks (way_in x) (system_of x) (formula_found x) x.marks.items
+  pub least : IfSome x.least (AreLeastOf (system_of x) (nodes_with x.solution.priorities (formula_found x)))
 
 -- evidence of all that each player wins
 pub record IsPairOf (g : Game) (pair : EvidencePair) : Type 0 where

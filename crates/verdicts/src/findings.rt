@@ -1,21 +1,22 @@
 // What a check by a game finds out before it writes.
 
-ghost use Rattle.std.specs.Prelude.{◌≡◌, ◌↔◌, IfOk, IfErr, IsTrue, ℕ, List, Some, None, Option};
+ghost use Rattle.std.specs.Prelude.{◌≡◌, ◌↔◌, IfOk, IfErr, IfSome, IsTrue, ℕ, List, Some, None, Option};
 ghost use Rattle.std.specs.Arc.{arc_value};
 ghost use Rattle.calculus.specs.Closed.{closed_formula};
+ghost use Rattle.calculus.specs.Normal.{normal_nodes};
+ghost use Rattle.calculus.specs.Rules.{nodes_with};
 ghost use Rattle.game.specs.Wins.{OddWins};
 ghost use Rattle.evidence.specs.Best.{IsOddOf};
 ghost use Rattle.evidence.specs.Evidence.{IsGood, has};
 ghost use Rattle.workers.specs.declared.team.BoardKind.{BoardKind};
 ghost use Rattle.requests.specs.Causes.{HaveCauses};
-ghost use Rattle.requests.specs.Check.{ByGame, AreSpelled, RefusesCheck, IsBeyond};
-ghost use Rattle.verdicts.specs.Findings.{AreFindings, ArePosed, formula_found, system_of, way_in};
+ghost use Rattle.requests.specs.Check.{ByGame, AreSpelled, HasForm, RefusesCheck, IsBeyond};
+ghost use Rattle.verdicts.specs.Findings.{AreFindings, AreLeastOf, ArePosed, IsLeastFound, formula_found, system_of, way_in};
 ghost use Rattle.requests.specs.Solver.{FitsBoard, IsUnsolved};
 ghost use Rattle.requests.specs.Writers.{AreKept, Lent};
 
 use crate::lifting::{SolvedGame, Winners, state_marks};
-use crate::proposing::guessed_table;
-use arena_search::measures::{Measures, Side, least_measures};
+use crate::proposing::LeastFound;
 use calculus::form::Normal;
 use calculus::priorities::Priorities;
 use evidence::decide::certified_winners;
@@ -26,6 +27,8 @@ use game::build::build_seen;
 use game::dual::dual;
 use game::graph::Game;
 use game::observer::{Observer, Silent, Stage};
+use game::player::Player;
+use measures::proposal::Proposals;
 use measures::settle::solve_one;
 use measures::table::Settled;
 use normal::make::normal_with;
@@ -49,8 +52,8 @@ pub struct Findings {
     pub texts: Box<Texts>,
     pub solution: SolvedGame,
     pub marks: Vec<bool>,
-    /// What was guessed of the least measures of both players, if they were searched for.
-    pub guess: Option<Measures>,
+    /// The least measures of both players, if a guess of them was found good.
+    pub least: Option<Proposals>,
 }
 
 /// Both texts, the formula's normal form, and their game, which is to be solved.
@@ -119,8 +122,8 @@ pub fn find_with<
     find_by_workers(rt, alloc, posed, options, gate)
 }
 
-/// Finds what `find_with` does, of texts that were read, and tells a watcher what is being built, searched and lifted. Where no board is named and a guess of
-/// the whole table is good, no worker lifts, however many there are.
+/// Finds what `find_with` does, of texts that were read, and tells a watcher what is being built and lifted. Where the least measures of both players are
+/// found already, no worker lifts, however many there are.
 ///
 /// # Errors
 /// Those of the normal form, of the game, of the board and of the workers' table; U4.
@@ -128,16 +131,18 @@ pub fn find_in<O: Watcher + Sync, H: Threads + Wait + Clone + Copy + Drop + Send
     rt: &H,
     alloc: Global,
     texts: Texts,
+    least: Option<LeastFound>,
     options: &Options,
     observer: &O,
 ) -> Result<Findings, MuError>
+    requires { IfSome least (IsLeastFound options.now.priorities options.now.board texts.system.system (closed_formula texts.formula)) }
     ensures found { IfOk result AreFindings }
     ensures way { IfOk result (λ found. way_in found ≡ ByGame options.now.priorities (Some options.now.board)) }
     ensures texts { IfOk result (λ found. found.texts.value ≡ texts) }
     ensures refusal { IfErr result (IsBeyond (ByGame options.now.priorities (Some options.now.board)) texts.system.system (closed_formula texts.formula)) }
 {
     let texts = boxed(alloc, texts)?;
-    find_boxed(rt, alloc, texts, options, observer)
+    find_boxed(rt, alloc, texts, least, options, observer)
 }
 
 /// The value in a box.
@@ -148,6 +153,49 @@ fn boxed<T: Drop>(alloc: Global, value: T) -> Result<Box<T>, Memory>
 }
 
 fn find_boxed<O: Watcher + Sync, H: Threads + Wait + Clone + Copy + Drop + Send + Sync>(
+    rt: &H,
+    alloc: Global,
+    texts: Box<Texts>,
+    least: Option<LeastFound>,
+    options: &Options,
+    observer: &O,
+) -> Result<Findings, MuError>
+    requires { IfSome least (IsLeastFound options.now.priorities options.now.board texts.value.system.system (closed_formula texts.value.formula)) }
+    ensures found { IfOk result AreFindings }
+    ensures way { IfOk result (λ found. way_in found ≡ ByGame options.now.priorities (Some options.now.board)) }
+    ensures texts { IfOk result (λ found. found.texts.value ≡ texts.value) }
+    ensures refusal { IfErr result (IsBeyond (ByGame options.now.priorities (Some options.now.board)) texts.value.system.system
+        (closed_formula texts.value.formula)) }
+{
+    match least {
+        Some(least) => find_by_least(rt, alloc, texts, least, options, observer),
+        None => find_by_game(rt, alloc, texts, options, observer),
+    }
+}
+
+/// What is found out of these texts, whose least measures are known.
+fn find_by_least<O: Watcher + Sync, H: Threads + Wait + Clone + Copy + Drop + Send + Sync>(
+    rt: &H,
+    alloc: Global,
+    texts: Box<Texts>,
+    least: LeastFound,
+    options: &Options,
+    observer: &O,
+) -> Result<Findings, MuError>
+    requires { IsLeastFound options.now.priorities options.now.board texts.value.system.system (closed_formula texts.value.formula) least }
+    ensures found { IfOk result AreFindings }
+    ensures way { IfOk result (λ found. way_in found ≡ ByGame options.now.priorities (Some options.now.board)) }
+    ensures texts { IfOk result (λ found. found.texts.value ≡ texts.value) }
+    ensures refusal { IfErr result (IsBeyond (ByGame options.now.priorities (Some options.now.board)) texts.value.system.system
+        (closed_formula texts.value.formula)) }
+{
+    let LeastFound { form, proposals } = least;
+    let posed = build_with(rt, alloc, texts, options.priorities, form, observer)?;
+    find_least(alloc, posed, options, proposals)
+}
+
+/// What is found out of these texts by solving their game.
+fn find_by_game<O: Watcher + Sync, H: Threads + Wait + Clone + Copy + Drop + Send + Sync>(
     rt: &H,
     alloc: Global,
     texts: Box<Texts>,
@@ -186,7 +234,7 @@ fn read_and_build<L: BuildHasher + Drop, R: Source + Drop, S: Source + Drop, H: 
     build_of(rt, alloc, boxed, priorities, &Silent)
 }
 
-/// Makes the game of these texts.
+/// Makes the normal form of these texts, and their game.
 fn build_of<O: Observer, H: Threads + Sync>(
     rt: &H,
     alloc: Global,
@@ -199,12 +247,32 @@ fn build_of<O: Observer, H: Threads + Sync>(
     ensures texts { IfOk result (λ posed. posed.texts.value ≡ texts.value) }
     ensures refusal { IfErr result (IsBeyond (ByGame priorities None) texts.value.system.system (closed_formula texts.value.formula)) }
 {
+    let form = normal_with(alloc, &texts.formula, priorities).map_err(MuError::Normal)?;
+    build_with(rt, alloc, texts, priorities, form, observer)
+}
+
+/// Makes the game of these texts with their normal form.
+fn build_with<O: Observer, H: Threads + Sync>(
+    rt: &H,
+    alloc: Global,
+    texts: Box<Texts>,
+    priorities: Priorities,
+    form: Normal,
+    observer: &O,
+) -> Result<GameToSolve, MuError>
+    requires nodes { normal_nodes form ≡ nodes_with priorities (closed_formula texts.value.formula) }
+    requires form { HasForm priorities (closed_formula texts.value.formula) }
+    ensures posed { IfOk result ArePosed }
+    ensures rule { IfOk result (λ posed. posed.priorities ≡ priorities) }
+    ensures texts { IfOk result (λ posed. posed.texts.value ≡ texts.value) }
+    ensures refusal { IfErr result (IsBeyond (ByGame priorities None) texts.value.system.system (closed_formula texts.value.formula)) }
+{
     observer.sees(Stage::Building {
         states: texts.system.states(),
     });
-    let Texts { system, formula } = &*texts;
-    let form = normal_with(alloc, formula, priorities).map_err(MuError::Normal)?;
-    let game = build_seen(rt, alloc, system, &form, observer.gauge()).map_err(MuError::Build)?;
+    let game = build_seen(rt, alloc, &texts.system, &form, observer.gauge()).map_err(
+        MuError::Build,
+    )?;
     let game = Arc::new(alloc, game)?;
     Ok(GameToSolve {
         texts,
@@ -244,6 +312,25 @@ fn find_by_workers<T: Gate + Sync, H: Threads + Wait + Clone + Copy + Drop + Sen
     find_solved(alloc, posed, Some(options.board), settled, None)
 }
 
+/// What is found out of these texts, where the least measures of both players are found already.
+fn find_least(
+    alloc: Global,
+    posed: GameToSolve,
+    options: &Options,
+    least: Proposals,
+) -> Result<Findings, MuError>
+    requires posed { ArePosed posed }
+    requires least { AreLeastOf posed.texts.value.system.system (nodes_with posed.priorities (closed_formula posed.texts.value.formula)) least }
+    requires board { FitsBoard (Some options.now.board) (arc_value posed.game) }
+    ensures found { IfOk result AreFindings }
+    ensures way { IfOk result (λ found. way_in found ≡ ByGame posed.priorities (Some options.now.board)) }
+    ensures texts { IfOk result (λ found. found.texts.value ≡ posed.texts.value) }
+    ensures refusal { IfErr result (λ e. e ≡ MuError.Memory) }
+{
+    let settled = Settled::of_proposals(alloc, &posed.game, &least, Player::Even)?;
+    find_solved(alloc, posed, Some(options.board), settled, Some(least))
+}
+
 /// What is found out of these texts, over the board that the options ask for.
 fn find_posed<O: Observer + Sync, H: Threads + Wait + Clone + Copy + Drop + Send + Sync>(
     rt: &H,
@@ -258,35 +345,17 @@ fn find_posed<O: Observer + Sync, H: Threads + Wait + Clone + Copy + Drop + Send
     ensures texts { IfOk result (λ found. found.texts.value ≡ posed.texts.value) }
     ensures refusal { IfErr result (IsUnsolved (Some options.now.board) (arc_value posed.game)) }
 {
-    let guess = guess_of(alloc, &posed, options.board, observer);
-    let settled = settle_posed(rt, alloc, &posed, options, &guess, observer)?;
-    find_solved(alloc, posed, Some(options.board), settled, guess)
+    let settled = settle_posed(rt, alloc, &posed, options, observer)?;
+    find_solved(alloc, posed, Some(options.board), settled, None)
 }
 
-/// What is guessed of the least measures of both players, unless a board is named, over which workers are to lift.
-fn guess_of<O: Observer>(
-    alloc: Global,
-    posed: &GameToSolve,
-    board: BoardKind,
-    observer: &O,
-) -> Option<Measures> {
-    if board.is_named() {
-        return None;
-    }
-    observer.sees(Stage::Searching {
-        vertices: posed.game.vertices(),
-    });
-    least_measures(alloc, &posed.texts.system, &posed.form)
-}
-
-/// The least progress table. Over a board that is named workers lift it from the opening table on. Else it is the one that is guessed, where that is good; or
-/// workers lift it from a table that has top where certified evidence says that Odd wins.
+/// The least progress table. Over a board that is named workers lift it from the opening table on, and else from a table that has top where certified evidence
+/// says that Odd wins.
 fn settle_posed<O: Observer + Sync, H: Threads + Wait + Clone + Copy + Drop + Send + Sync>(
     rt: &H,
     alloc: Global,
     posed: &GameToSolve,
     options: &Options,
-    guess: &Option<Measures>,
     observer: &O,
 ) -> Result<Settled, MuError>
     ensures game { IfOk result (λ s. s.game ≡ arc_value posed.now.game) }
@@ -296,11 +365,6 @@ fn settle_posed<O: Observer + Sync, H: Threads + Wait + Clone + Copy + Drop + Se
     let game = &posed.game;
     if options.board.is_named() {
         return solve_seen(rt, alloc, game, options, &NoGate, observer, None);
-    }
-    if let Some(guess) = guess {
-        if let Some(settled) = guessed_table(alloc, guess, Side::Even, game) {
-            return Ok(settled);
-        }
     }
     let won = certified_winners(alloc, game, observer.gauge());
     solve_seen(rt, alloc, game, options, &NoGate, observer, won.as_deref())
@@ -312,9 +376,11 @@ fn find_solved(
     posed: GameToSolve,
     board: Option<BoardKind>,
     settled: Settled,
-    guess: Option<Measures>,
+    least: Option<Proposals>,
 ) -> Result<Findings, MuError>
     requires posed { ArePosed posed }
+    requires least { IfSome least (AreLeastOf posed.texts.value.system.system
+        (nodes_with posed.priorities (closed_formula posed.texts.value.formula))) }
     requires board { FitsBoard board (arc_value posed.game) }
     requires settled { settled.game ≡ arc_value posed.game }
     ensures found { IfOk result AreFindings }
@@ -342,11 +408,11 @@ fn find_solved(
             settled,
         },
         marks,
-        guess,
+        least,
     })
 }
 
-/// The evidence of all that Odd wins: by the guess, where there is one and it is good, and else by lifting the dual game.
+/// The evidence of all that Odd wins: by the least measures that were guessed, where these are good, and else by lifting the dual game.
 ///
 /// # Errors
 /// E5.
@@ -359,14 +425,12 @@ pub fn odd_evidence_found(alloc: Global, found: &Findings) -> Result<Evidence, E
     ensures exact { IfOk result (λ e. (v : ℕ) → IsTrue (has e.evidence v) ↔ OddWins (arc_value found.now.solution.game) v) }
 {
     let SolvedGame { game, settled, .. } = &found.solution;
-    let Some(guess) = &found.guess else {
+    let Some(least) = &found.least else {
         return odd_evidence_from(alloc, game, settled);
     };
     let Ok(turned) = dual(alloc, game) else {
         return Err(EvidenceError::Memory);
     };
-    match guessed_table(alloc, guess, Side::Odd, &turned) {
-        Some(other) => odd_evidence_of(alloc, game, &turned, &other),
-        None => odd_evidence_from(alloc, game, settled),
-    }
+    let other = Settled::of_proposals(alloc, &turned, least, Player::Odd)?;
+    odd_evidence_of(alloc, game, &turned, &other)
 }

@@ -1,132 +1,161 @@
-// The least progress tables that are guessed, as proposals.
+// The least measures of both players that are guessed and found good, and the states that satisfy a formula by them.
 
-ghost use Rattle.std.specs.Prelude.{◌≡◌, ◌<◌, ◌≤◌, IfSome, length};
-ghost use Rattle.measures.specs.Measure.{components};
+ghost use Rattle.std.specs.Prelude.{◌≡◌, ◌≢◌, ◌+◌, ◌*◌, ◌<◌, ◌≤◌, IfErr, IfOk, IfSome, Some, length};
+ghost use Rattle.calculus.specs.Closed.{closed_formula};
+ghost use Rattle.calculus.specs.Meaning.{MarksOf};
+ghost use Rattle.calculus.specs.Normal.{normal_nodes};
+ghost use Rattle.game.specs.declared.limits.TheConstants.{MOST_VERTICES};
+ghost use Rattle.game.specs.declared.player.Player.TheVariants.{Even};
+ghost use Rattle.game.specs.Arena.{place};
+ghost use Rattle.measures.specs.Measure.{Top};
+ghost use Rattle.measures.specs.Progress.{value_at};
+ghost use Rattle.measures.specs.StoredProposal.{values_of};
+ghost use Rattle.requests.specs.Check.{AreMarks, ByGame};
+ghost use Rattle.verdicts.specs.Findings.{AreLeastOf, IsLeastFound};
 
-use arena_search::measures::{Measures, Side};
-use game::graph::Game;
+use arena_search::measures::{GuessedField, GuessedLayout, GuessedMeasures, least_measures};
+use arrayvec::ArrayVec;
+use calculus::form::Normal;
+use game::observer::{Observer, Stage};
+use game::player::Player;
+use laws::games::least_decides;
+use laws::{chosen_is_admissible, even_wins_where_meant};
+use lts::system::Lts;
+use measures::field::CountField;
 use measures::measure::COMPONENTS;
-use measures::proposal::{Proposal, SHIFTS};
-use measures::table::Settled;
-use std::alloc::Global;
+use measures::proposal::{PlayerLayout, Proposals, SHIFTS};
+use normal::make::normal_with;
+use rankings::least::are_least;
+use requests::error::MuError;
+use requests::request::Options;
+use requests::texts::Texts;
+use std::alloc::{AllocError, Global};
 
-/// A node of a normal form at a state of a system.
-#[derive(Clone, Copy)]
-struct NodeState {
-    node: usize,
-    state: usize,
+// The greatest shift of a number.
+const LAST_SHIFT: u32 = 63;
+
+fn field(guess: GuessedField) -> CountField {
+    CountField {
+        left: guess.left,
+        right: guess.right,
+    }
 }
 
-/// The least progress table of a game, as it is guessed: of the arena of a system and a normal form for Even, and of its dual for Odd. There is none where the
-/// guess isn't good, or for want of memory.
-pub fn guessed_table(alloc: Global, measures: &Measures, side: Side, game: &Game) -> Option<Settled>
-    ensures { IfSome result (λ s. s.game ≡ game.now) }
+fn layout(guess: &GuessedLayout) -> PlayerLayout {
+    let mut fields = ArrayVec::new();
+    for place in 0..COMPONENTS {
+        if place < guess.fields.len() {
+            fields.push(field(guess.fields[place]));
+        }
+    }
+    let mut shifts = [0; SHIFTS];
+    for priority in 0..SHIFTS {
+        shifts[priority] = guess.shifts.get(priority).copied().unwrap_or(LAST_SHIFT);
+    }
+    PlayerLayout { fields, shifts }
+}
+
+/// What is guessed of the least measures of both players, to be tested.
+pub fn proposals_of(guess: GuessedMeasures) -> Proposals
+    ensures { result.numbers ≡ guess.numbers }
 {
-    let shifts = shifts(measures, side);
-    let mut proposal = Proposal::new(alloc, game, shifts).ok()?;
-    if propose(measures, side, game, &mut proposal) {
-        proposal.into_settled(game)
+    Proposals {
+        even: layout(&guess.even),
+        odd: layout(&guess.odd),
+        numbers: guess.numbers,
+        heights: guess.heights,
+        width: guess.width,
+    }
+}
+
+/// The formula's normal form, and the least measures of both players in the arena of the system and this form.
+#[derive(Drop)]
+pub struct LeastFound {
+    pub form: Normal,
+    pub proposals: Proposals,
+}
+
+// The least progress tables of both players, as they are guessed and found good.
+fn least_tables(alloc: Global, system: &Lts, form: &Normal) -> Option<Proposals>
+    ensures few { IfSome result (λ _. 2 + system.now.system.states * length (normal_nodes form.now) ≤ MOST_VERTICES) }
+    ensures least { IfSome result (AreLeastOf system.now.system (normal_nodes form.now)) }
+{
+    let proposals = proposals_of(least_measures(alloc, system, form)?);
+    if are_least(alloc, system, form, &proposals) {
+        Some(proposals)
     } else {
         None
     }
 }
 
-// The priority in the arena of one in the game, which is one more in the dual.
-fn in_arena(side: Side, priority: usize) -> u32 {
-    let priority = match side {
-        Side::Even => priority,
-        Side::Odd => priority.saturating_sub(1),
-    };
-    u32::try_from(priority).unwrap_or(0)
-}
-
-// How many of the lowest bits of heights don't count at each priority of the game.
-fn shifts(measures: &Measures, side: Side) -> [u32; SHIFTS] {
-    let mut shifts = [0; SHIFTS];
-    for priority in 0..SHIFTS {
-        shifts[priority] = measures.shift(side, in_arena(side, priority));
-    }
-    shifts
-}
-
-// Proposes the values of all vertices. The answer is whether they are measures of the game.
-fn propose(measures: &Measures, side: Side, game: &Game, proposal: &mut Proposal) -> bool
-    requires { proposal.old.game ≡ game.now }
-    ensures { proposal.new.game ≡ game.now }
+/// The least measures of both players, as they are guessed and found good. There are none where the guess isn't good, where a limit is passed, or for want of
+/// memory; nor where a board is named, over which workers are to lift. An observer is told that they are searched for.
+pub fn least_found<O: Observer>(
+    alloc: Global,
+    texts: &Texts,
+    options: &Options,
+    observer: &O,
+) -> Option<LeastFound>
+    ensures { IfSome result (IsLeastFound options.now.priorities options.now.board texts.now.system.system (closed_formula texts.now.formula)) }
 {
-    // Of the two sinks the player loses the one of odd priority.
-    for sink in 0..2 {
-        if sink < game.vertices() && game.priority(sink) % 2 == 1 {
-            proposal.put_top(sink, 0);
-        }
+    let Texts { system, formula } = texts;
+    let states = system.states();
+    if options.board.is_named() {
+        return None;
     }
-    let mut place = NodeState { node: 0, state: 0 };
-    for v in 2..game.vertices() {
-        if !propose_at(measures, side, proposal, v, place) {
-            return false;
+    match normal_with(alloc, formula, options.priorities) {
+        Ok(form) => {
+            let vertices = 2 + states * form.count();
+            observer.sees(Stage::Searching { vertices });
+            let proposals = least_tables(alloc, system, &form)?;
+            Some(LeastFound { form, proposals })
         }
-        place = after(measures, place);
-    }
-    true
-}
-
-// The next node at the same state, or the first one at the next state: so vertices are numbered.
-fn after(measures: &Measures, place: NodeState) -> NodeState {
-    let node = place.node.saturating_add(1);
-    if node < measures.nodes() {
-        NodeState { node, ..place }
-    } else {
-        NodeState {
-            node: 0,
-            state: place.state.saturating_add(1),
-        }
+        Err(_) => None,
     }
 }
 
-// Proposes the value of a vertex. The answer is whether it is a measure of the game.
-fn propose_at(
-    measures: &Measures,
-    side: Side,
-    proposal: &mut Proposal,
-    v: u32,
-    place: NodeState,
-) -> bool
-    requires { v < length proposal.old.game.vertices }
-    ensures { proposal.new.game ≡ proposal.old.game }
+// A mark for each state, true where Even wins its vertex with the root node.
+fn root_marks_of(
+    alloc: Global,
+    proposals: &Proposals,
+    states: u32,
+    nodes: u32,
+) -> Result<Vec<bool>, AllocError>
+    requires some { 0 < nodes }
+    requires few { 2 + states * nodes ≤ MOST_VERTICES }
+    requires long { length proposals.now.numbers.items ≡ 2 + states * nodes }
+    ensures { IfOk result (λ marks. MarksOf states marks.items (λ s. value_at (values_of Even proposals.now) (place nodes s 0) ≢ Top)) }
 {
-    let NodeState { node, state } = place;
-    let group = measures.group(node);
-    if measures.is_top(side, node, state) {
-        proposal.put_top(v, group);
-        proposal.put_height(0, v, measures.top_height(node, state));
-        return true;
+    let mut marks = Vec::with_capacity(alloc, states as usize)?;
+    for state in 0..states {
+        let root = 2 + state * nodes;
+        let is_lost = proposals.value(Player::Even, root).is_top();
+        marks.push(!is_lost)?;
     }
-    let mut counts = [0; COMPONENTS];
-    let width = proposal.width().min(COMPONENTS);
-    measures.counts_into(side, node, state, &mut counts[..width]);
-    propose_heights(measures, side, proposal, v, place, &counts[..width]);
-    proposal.put_counts(v, group, &counts[..width])
+    Ok(marks)
 }
 
-// Proposes a height of a vertex for each of its counts that isn't zero.
-fn propose_heights(
-    measures: &Measures,
-    side: Side,
-    proposal: &mut Proposal,
-    v: u32,
-    place: NodeState,
-    counts: &[u32],
-)
-    requires vertex { v < length proposal.old.game.vertices }
-    requires counts { length counts.now ≤ length (components proposal.old.game) }
-    ensures { proposal.new.game ≡ proposal.old.game }
+/// A mark for each state, true where it satisfies the formula, by the least measures of its game, which isn't stored.
+///
+/// # Errors
+/// U4.
+pub fn least_marks(
+    alloc: Global,
+    texts: &Texts,
+    options: &Options,
+    least: &LeastFound,
+) -> Result<Vec<bool>, MuError>
+    requires { IsLeastFound options.now.priorities options.now.board texts.now.system.system (closed_formula texts.now.formula) least.now }
+    ensures marks { IfOk result (λ marks. AreMarks (ByGame options.now.priorities (Some options.now.board)) texts.now.system.system
+        (closed_formula texts.now.formula) marks.items) }
+    ensures refusal { IfErr result (λ e. e ≡ MuError.Memory) }
 {
-    let width = counts.len();
-    for count in 0..width {
-        if counts[count] != 0 {
-            let priority = in_arena(side, 2 * (width - 1 - count) + 1);
-            let height = measures.height(side, priority, place.node, place.state);
-            proposal.put_height(count + 1, v, height);
-        }
-    }
+    // For the proof alone: clauses name them.
+    let _ = options;
+    chosen_is_admissible();
+    even_wins_where_meant();
+    least_decides();
+    least.form.known();
+    let states = texts.system.states();
+    Ok(root_marks_of(alloc, &least.proposals, states, least.form.count())?)
 }

@@ -1,19 +1,10 @@
-use Rattle.game.proofs.Common.{ap, ◌∙◌, length, arith, is_in}
-use Rattle.game.proofs.Steps.{reached_few}
+use Rattle.game.proofs.Common.{ap, length, arith, is_in, node_of, Vertex}
+use Rattle.game.proofs.Steps.{successors_few}
 use Rattle.game.proofs.build.push_node.Goals as goal
 
-pub push-requires-in-Dia-clause-few : goal.push-requires-in-Dia-clause-few
-push-requires-in-Dia-clause-few c =
-    omega (
-      arith,
-      reached_few (is_in c.args.set.now) c.args.row.now c.args.nodes c.in-Dia.child 1 c.requires.inside,
-      ap length (c.deref.ensures.value ∙ c.in_ok-pick-in-Dia.ensures),
-    )
-
-pub push-requires-in-Box-clause-few : goal.push-requires-in-Box-clause-few
-push-requires-in-Box-clause-few c =
-    omega (
-      arith,
-      reached_few (is_in c.args.set.now) c.args.row.now c.args.nodes c.in-Box.child 0 c.requires.inside,
-      ap length (c.deref-in-Box.ensures.value ∙ c.in_ok-pick-in-Box.ensures),
-    )
+pub push-requires-clause-few : goal.push-requires-clause-few
+push-requires-clause-few c = omega (
+  arith,
+  successors_few (is_in c.args.set.now) c.args.row.now c.args.nodes c.args.state (node_of c.args.node.now) c.requires.inside,
+  ap (λ (x : Vertex). length x.successors) c.in_ok-vertex.ensures,
+)
