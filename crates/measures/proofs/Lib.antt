@@ -37,4 +37,5 @@ pub mod Cuts
 pub mod Levels
 pub mod Proposals
 pub mod StoredProposals
+mod Values
 pub mod Moves

@@ -3,7 +3,7 @@ use Rattle.measures.proofs.Common.{◌≡◌, ℕ, zero, suc, ◌+◌, ◌-◌, 
 use Rattle.measures.proofs.Common.{arith, true≢false, Some, eqb_tells, leb_tells, get_or_past, Ordering, Less, Equal, Greater, is_le, is_lt}
 use Rattle.measures.proofs.Common.{nat_cmp, Player, Even, Odd, Vertex, Game, IsGame, IsVertex, greatest, vertex, opponent, priority_at, greatest_met, components}
 use Rattle.measures.proofs.Common.{measure_cmp, Measure, Top, Counts, IsAtMost, IsBelow, IsMeasure, IsProgress, IsTable, Reaches, is_odd, kept, value_at, IsLeastTable}
-use Rattle.measures.proofs.Common.{AllZip, AllZip-long, IsBestFor, IsLiftAt, IsProg, IsStill, greater_of, length-map, map}
+use Rattle.measures.proofs.Common.{AllZip, AllZip-long, IsBestFor, IsLiftAt, IsProg, IsStill, length-map, map}
 use Rattle.std.proofs.Common.{◌^◌, div-mul-le_self}
 use Rattle.std.proofs.lemmas.Nat.{le-div, pow_pos, shr-shr}
 use Rattle.measures.specs.Measure.{digit_of, counted_at, cut}

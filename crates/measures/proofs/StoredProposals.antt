@@ -1,14 +1,12 @@
 -- Proposals that are stored in packed numbers.
-use Rattle.measures.proofs.Common.{◌≡◌, ◌≢◌, ℕ, suc, ◌+◌, ◌<◌, ◌≤◌, List, [], ◌∷◌, ◌++◌, length, map, take, refl, sym, ap, ap₂}
-use Rattle.measures.proofs.Common.{◌∙◌, ◌⊎◌, subst, inl, inr, arith, slice_index_or, leb_tells, get_or_past}
-use Rattle.measures.proofs.Common.{take-suc, length-map, length-take-le, AllZip, AllZip-long, Some, Ordering, Less, Equal, nat_cmp, Player, Even, Odd}
+use Rattle.measures.proofs.Common.{◌≡◌, ◌≢◌, ℕ, suc, ◌<◌, ◌≤◌, List, [], ◌∷◌, length, refl, ap, ap₂}
+use Rattle.measures.proofs.Common.{◌∙◌, ◌⊎◌, subst, inl, inr, arith, leb_tells, get_or_past}
+use Rattle.measures.proofs.Common.{AllZip, AllZip-long, Some, Ordering, Less, Equal, nat_cmp, Player, Even, Odd}
 use Rattle.measures.proofs.Common.{Vertex, Game, count, vertex, components, Measure, Top, Counts, IsMeasure, measure_cmp, value_at, Rows, counts_of}
-use Rattle.std.proofs.lemmas.List.{map-append}
 use Rattle.measures.specs.Measure.{counted_at, cut, digit_of}
-use Rattle.measures.specs.declared.field.CountField.{CountField}
 use Rattle.measures.specs.declared.proposal.PlayerLayout.{PlayerLayout}
 use Rattle.measures.specs.Proposal.{AreEnough, HasAllButOne, HasAsMuch, HasReasonsFor, HeightFalls, IsReason, MatchUpTo, Proposal}
-use Rattle.measures.specs.StoredProposal.{AreBoundsIn, count_in, shift_in}
+use Rattle.measures.specs.StoredProposal.{AreBoundsIn, shift_in}
 use Rattle.measures.proofs.Plain.{same_values}
 
 -- ------------------------------------------------------------------ shifts
@@ -19,24 +17,6 @@ risen layout n long below p = elim (leb_tells n p) [
   | inl w ↦ (let l = w.1 in let past = get_or_past layout.shifts (suc p) 63 (omega arith) in omega (arith, past))
   | inr w ↦ below p w.1
 ]
-
--- ------------------------------------------------------------------ counts
-
-module _ (fields : List CountField) (n i : ℕ) (items : List ℕ) (is : items ≡ map (λ (field : CountField). count_in field n) (take i fields))
-    (here : i < length fields) where
-  abbrev counted : CountField → ℕ
-  counted field = count_in field n
-
-  pub counts_room : length fields ≤ 16 → length items < 16
-  counts_room few = omega (arith, few, here, ap length is, length-map (take i fields) counted, length-take-le i fields (omega arith))
-
-  pub counts_more : (field : CountField) (r : ℕ) (more : List ℕ) → field ≡ slice_index_or fields i field → r ≡ count_in field n → more ≡ items ++ r ∷ []
-      → more ≡ map (λ (f : CountField). count_in f n) (take (i + 1) fields)
-  counts_more field r more at e m =
-      let one : i + 1 ≡ suc i = omega arith in
-      let whole : take (i + 1) fields ≡ take i fields ++ slice_index_or fields i field ∷ [] = ap (λ k. take k fields) one ∙ take-suc fields i field here in
-      m ∙ (ap₂ (λ (a : List ℕ) (b : ℕ). a ++ b ∷ []) is (e ∙ ap counted at)
-      ∙ (sym (map-append counted (take i fields) (slice_index_or fields i field ∷ [])) ∙ ap (map counted) (sym whole)))
 
 -- ------------------------------------------------------------------ an edge
 

@@ -12,6 +12,7 @@ use Rattle.measures.specs.declared.proposal.Demand.{Demand}
 use Rattle.measures.specs.declared.proposal.Demand.TheVariants.{Reach, Reason}
 use Rattle.measures.specs.declared.proposal.PlayerLayout.{PlayerLayout}
 use Rattle.measures.specs.declared.proposal.Proposals.{Proposals}
+use Rattle.measures.specs.declared.value.ProposedValue.{ProposedValue}
 
 -- The game that a player's measures are of: Odd's are those of the dual.
 abbrev pub game_for : Player → Game → Game
@@ -26,10 +27,18 @@ winner_of n = if is_odd n then Odd else Even
 abbrev pub count_in : CountField → ℕ → ℕ
 count_in field n = (n * 2 ^ (field.left % 64) % 2 ^ 64 / 2 ^ (field.right % 64)) % 2 ^ 32
 
+-- what it has in each of these fields
+abbrev pub counts_in : List CountField → ℕ → List ℕ
+counts_in fields n = map (λ field. count_in field n) fields
+
+-- what a value that is proposed says
+abbrev pub value_said : ProposedValue → Measure
+value_said x = if x.is_top then Top else Counts (counts_in x.layout.now.fields.items x.number)
+
 -- the fields' counts for the player who is said to win, and top for the other
 abbrev pub value_if : Player → Player → List CountField → ℕ → Measure
-value_if Even Even fields n = Counts (map (λ field. count_in field n) fields)
-value_if Odd Odd fields n = Counts (map (λ field. count_in field n) fields)
+value_if Even Even fields n = Counts (counts_in fields n)
+value_if Odd Odd fields n = Counts (counts_in fields n)
 value_if Even Odd fields n = Top
 value_if Odd Even fields n = Top
 

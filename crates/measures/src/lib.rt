@@ -11,4 +11,5 @@ pub mod rank;
 pub mod rows;
 pub mod settle;
 pub mod table;
+mod value;
 pub mod writer;

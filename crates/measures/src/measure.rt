@@ -2,10 +2,9 @@
 
 ghost use Rattle.std.specs.Prelude.{◌≡◌, ◌≤◌, ◌↔◌, ◌++◌, ◌+◌, ◌-◌, IsTrue, MatchBool, length, replicate, take};
 ghost use Rattle.std.specs.Cmp.Lexicographic.{slice_cmp};
-ghost use Rattle.std.specs.Ordering.{is_lt, nat_cmp};
+ghost use Rattle.std.specs.Ordering.{is_le, is_lt, nat_cmp};
 ghost use Rattle.game.specs.Game.{Game};
-ghost use Rattle.measures.specs.Measure.{Counts, IsAtMost, IsBelow, Measure, Reaches, Top, components, cut, digit_of, is_odd, measure_cmp};
-ghost use Rattle.measures.specs.Proposal.{MatchUpTo};
+ghost use Rattle.measures.specs.Measure.{Counts, IsAtMost, IsBelow, Measure, Reaches, Top, components, is_odd, measure_cmp};
 ghost use Rattle.measures.specs.View.{counts_of, measure_of};
 
 use arrayvec::ArrayVec;
@@ -90,41 +89,6 @@ impl Measure {
         Measure { counts, top: false }
     }
 
-    /// A digit of the measure.
-    pub(crate) fn digit(&self, digit: usize) -> u32
-        ensures { result ≡ digit_of self.now digit }
-    {
-        if digit == 0 {
-            u32::from(self.is_top())
-        } else {
-            self.counts().get(digit - 1).copied().unwrap_or(0)
-        }
-    }
-
-    /// Compares two measures as far as their first counts.
-    pub(crate) fn compare_first(&self, other: &Measure, kept: usize) -> Ordering
-        ensures { result ≡ measure_cmp (cut kept self.now) (cut kept other.now) }
-    {
-        compare(
-            self.is_top(),
-            first(self.counts(), kept),
-            other.is_top(),
-            first(other.counts(), kept),
-        )
-    }
-
-    /// Whether before a digit the next measure has more, or as much and at it at most one less.
-    pub(crate) fn has_all_but_one(&self, next: &Measure, digit: usize) -> bool
-        ensures { IsTrue result ↔ MatchUpTo (measure_cmp (cut (digit - 1) self.now) (cut (digit - 1) next.now)) (Unit {0})
-            (digit_of self.now digit ≤ digit_of next.now digit + 1) }
-    {
-        match self.compare_first(next, digit.saturating_sub(1)) {
-            Ordering::Less => true,
-            Ordering::Equal => self.digit(digit) <= next.digit(digit).saturating_add(1),
-            Ordering::Greater => false,
-        }
-    }
-
     /// Whether the measure is enough where the play goes on at the next one, at a vertex of this priority, in a game of so many components.
     pub fn reaches(&self, next: &Measure, priority: u8, width: usize) -> bool
         ensures { (g : Game) → length (components g) ≡ width → (IsTrue result ↔ Reaches g priority next.now self.now) }
@@ -201,18 +165,24 @@ pub(crate) fn first(counts: &[u32], kept: usize) -> &[u32]
     &counts[..kept.min(counts.len())]
 }
 
-/// Whether the counts at or above a vertex's priority are enough where the play goes on at a vertex with the next ones: no less, and greater where the
-/// priority is odd.
+/// Whether what a vertex of this priority has is enough, where the next vertex's is in this order to it: no greater, and less where the priority is odd.
 #[inline(always)]
-pub(crate) fn counts_reach(next: &[u32], own: &[u32], priority: u8) -> bool
-    ensures { IsTrue result ↔ MatchBool (is_odd priority) (IsBelow (Counts next.now) (Counts own.now)) (IsAtMost (Counts next.now) (Counts own.now)) }
+pub(crate) fn is_reach(order: Ordering, priority: u8) -> bool
+    ensures { IsTrue result ↔ MatchBool (is_odd priority) (IsTrue (is_lt order)) (IsTrue (is_le order)) }
 {
-    let order = compare_counts(next, own);
     if priority % 2 == 0 {
         order.is_le()
     } else {
         order.is_lt()
     }
+}
+
+/// Whether the counts at or above a vertex's priority are enough where the play goes on at a vertex with the next ones.
+#[inline(always)]
+pub(crate) fn counts_reach(next: &[u32], own: &[u32], priority: u8) -> bool
+    ensures { IsTrue result ↔ MatchBool (is_odd priority) (IsBelow (Counts next.now) (Counts own.now)) (IsAtMost (Counts next.now) (Counts own.now)) }
+{
+    is_reach(compare_counts(next, own), priority)
 }
 
 pub(crate) fn copy_of(counts: &[u32]) -> ArrayVec<u32, 16>

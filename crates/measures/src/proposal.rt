@@ -1,17 +1,18 @@
 // Proposals of the least progress tables of both players, which one pass over the vertices tests.
 
-ghost use Rattle.std.specs.Prelude.{◌≡◌, ◌<◌, ◌≤◌, ◌↔◌, ℕ, suc, IfOk, IsTrue, Some, length, map};
+ghost use Rattle.std.specs.Prelude.{◌≡◌, ◌<◌, ◌≤◌, ◌↔◌, ℕ, suc, IsTrue, Some, length};
 ghost use Rattle.std.specs.List.{AllByRecursion};
 ghost use Rattle.game.specs.Game.{Game, vertex as vertex_at};
 ghost use Rattle.game.specs.Lent.{lent_vertex};
-ghost use Rattle.measures.specs.Measure.{Counts, components};
+ghost use Rattle.measures.specs.Measure.{components};
 ghost use Rattle.measures.specs.Progress.{IsLeastTable, value_at};
 ghost use Rattle.measures.specs.Proposal.{AreEnough, HasReasonsFor, HeightFalls, IsGoodVertex, IsReason};
-ghost use Rattle.measures.specs.StoredProposal.{AreBoundsIn, Meets, count_in, height_in, layout_of, proposal_in, shift_in, value_of, values_of, winner_of};
+ghost use Rattle.measures.specs.StoredProposal.{AreBoundsIn, Meets, height_in, layout_of, proposal_in, shift_in, value_said, values_of, winner_of};
 
 use crate::field::CountField;
 use crate::measure::{COMPONENTS, Measure};
 use crate::progs::are_within;
+use crate::value::ProposedValue;
 use arrayvec::ArrayVec;
 use game::player::Player;
 use game::view::VertexView;
@@ -50,13 +51,13 @@ enum Demand {
 }
 
 /// A vertex of a player's game of so many components, with the value that is proposed for it.
-#[derive(Drop)]
-struct ProposedVertex {
+#[derive(Clone, Copy)]
+struct ProposedVertex<'a> {
     player: Player,
     width: usize,
     v: u32,
     priority: u8,
-    own: Measure,
+    own: ProposedValue<'a>,
 }
 
 // The player that a number says wins.
@@ -93,18 +94,6 @@ impl PlayerLayout {
         }
         true
     }
-
-    // The counts that a number has in the fields.
-    #[inline(always)]
-    fn counts(&self, number: u64) -> Measure
-        ensures { result ≡ Counts (map (λ field. count_in field number) self.now.fields.items) }
-    {
-        let mut counts: ArrayVec<u32, 16> = ArrayVec::new();
-        for field in self.fields.as_slice() {
-            counts.push(field.count(number));
-        }
-        Measure::of_array(counts)
-    }
 }
 
 impl Proposals {
@@ -117,18 +106,28 @@ impl Proposals {
         }
     }
 
+    // The value that is proposed for a player at a vertex.
+    #[inline(always)]
+    fn proposed(&self, player: Player, v: u32) -> ProposedValue<'_>
+        requires { v < length self.now.numbers.items }
+        ensures value { value_said result ≡ value_at (values_of player self.now) v }
+        ensures layout { result.layout.now ≡ layout_of player self.now }
+    {
+        let number = self.numbers[v as usize];
+        ProposedValue {
+            layout: self.layout(player),
+            number,
+            is_top: winner(number) != player,
+        }
+    }
+
     /// The value that is proposed for a player at a vertex.
     #[inline(always)]
     pub fn value(&self, player: Player, v: u32) -> Measure
         requires { v < length self.now.numbers.items }
         ensures { result ≡ value_at (values_of player self.now) v }
     {
-        let number = self.numbers[v as usize];
-        if winner(number) == player {
-            self.layout(player).counts(number)
-        } else {
-            Measure::top()
-        }
+        self.proposed(player, v).measure()
     }
 
     #[inline(always)]
@@ -157,30 +156,32 @@ impl Proposals {
     }
 
     // Whether an edge is a reason for what the value of a vertex has at a digit.
-    fn is_reason(&self, at: &ProposedVertex, digit: usize, next: u32) -> bool
-        requires own { at.now.own ≡ value_at (values_of at.now.player self.now) at.now.v }
+    fn is_reason(&self, at: &ProposedVertex<'_>, digit: usize, next: u32) -> bool
+        requires own { value_said at.now.own ≡ value_at (values_of at.now.player self.now) at.now.v }
+        requires layout { at.now.own.layout.now ≡ layout_of at.now.player self.now }
         requires digit { digit ≤ at.now.width }
         requires few { at.now.width ≤ COMPONENTS }
         requires next { next < length self.now.numbers.items }
         ensures { (g : Game) → length (components g) ≡ at.now.width
             → IsTrue result → IsReason (proposal_in at.now.player self.now g) digit at.now.priority at.now.v next }
     {
-        let other = self.value(at.player, next);
+        let other = self.proposed(at.player, next);
         let counted_at = 2 * (at.width - digit) + 1;
         match (at.priority as usize).cmp(&counted_at) {
-            Ordering::Less => match at.own.compare_first(&other, digit) {
+            Ordering::Less => match at.own.compare_first(other, digit) {
                 Ordering::Less => true,
                 Ordering::Equal => self.falls(at.player, digit, at.priority, at.v, next),
                 Ordering::Greater => false,
             },
-            Ordering::Equal => at.own.has_all_but_one(&other, digit),
+            Ordering::Equal => at.own.has_all_but_one(other, digit),
             Ordering::Greater => false,
         }
     }
 
     // Whether an edge meets what is asked of it.
-    fn meets(&self, at: &ProposedVertex, demand: Demand, next: u32) -> bool
-        requires own { at.now.own ≡ value_at (values_of at.now.player self.now) at.now.v }
+    fn meets(&self, at: &ProposedVertex<'_>, demand: Demand, next: u32) -> bool
+        requires own { value_said at.now.own ≡ value_at (values_of at.now.player self.now) at.now.v }
+        requires layout { at.now.own.layout.now ≡ layout_of at.now.player self.now }
         requires digit { (digit : ℕ) → demand ≡ Demand.Reason digit → digit ≤ at.now.width }
         requires few { at.now.width ≤ COMPONENTS }
         requires next { next < length self.now.numbers.items }
@@ -189,8 +190,8 @@ impl Proposals {
     {
         match demand {
             Demand::Reach => {
-                let other = self.value(at.player, next);
-                at.own.reaches(&other, at.priority, at.width)
+                let other = self.proposed(at.player, next);
+                at.own.reaches(other, at.priority, at.width)
             }
             Demand::Reason(digit) => self.is_reason(at, digit, next),
         }
@@ -199,12 +200,13 @@ impl Proposals {
     // Whether all of these edges meet what is asked of them, or one of them does, as this player would have it.
     fn are_enough(
         &self,
-        at: &ProposedVertex,
+        at: &ProposedVertex<'_>,
         demand: Demand,
         asker: Player,
         successors: &[u32],
     ) -> bool
-        requires own { at.now.own ≡ value_at (values_of at.now.player self.now) at.now.v }
+        requires own { value_said at.now.own ≡ value_at (values_of at.now.player self.now) at.now.v }
+        requires layout { at.now.own.layout.now ≡ layout_of at.now.player self.now }
         requires digit { (digit : ℕ) → demand ≡ Demand.Reason digit → digit ≤ at.now.width }
         requires few { at.now.width ≤ COMPONENTS }
         requires inside { AllByRecursion (λ t. t < length self.now.numbers.items) successors.now }
@@ -221,8 +223,9 @@ impl Proposals {
     }
 
     // Whether the value of a vertex of this owner has its reasons.
-    fn has_reasons(&self, at: &ProposedVertex, owner: Player, successors: &[u32]) -> bool
-        requires own { at.now.own ≡ value_at (values_of at.now.player self.now) at.now.v }
+    fn has_reasons(&self, at: &ProposedVertex<'_>, owner: Player, successors: &[u32]) -> bool
+        requires own { value_said at.now.own ≡ value_at (values_of at.now.player self.now) at.now.v }
+        requires layout { at.now.own.layout.now ≡ layout_of at.now.player self.now }
         requires few { at.now.width ≤ COMPONENTS }
         requires inside { AllByRecursion (λ t. t < length self.now.numbers.items) successors.now }
         ensures { (g : Game) → vertex_at g at.now.v ≡ Some record { owner = owner; priority = at.now.priority; successors = successors.now }
@@ -246,9 +249,9 @@ impl Proposals {
         ensures { IsTrue result → (g : Game) → vertex_at g v ≡ Some (lent_vertex vertex.entry) → AreBoundsIn g bounds.now
             → IsGoodVertex (proposal_in player self.now g) v }
     {
-        let own = self.value(player, v);
+        let own = self.proposed(player, v);
         let width = bounds.len();
-        if width > COMPONENTS || !(own.is_top() || are_within(own.counts(), bounds)) {
+        if width > COMPONENTS || !(own.is_top || are_within(own.measure().counts(), bounds)) {
             return false;
         }
         let at = ProposedVertex {

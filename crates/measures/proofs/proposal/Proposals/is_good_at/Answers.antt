@@ -1,10 +1,11 @@
-use Rattle.measures.proofs.Common.{◌≤◌, ◌∙◌, List, ℕ, Player, subst, sym, value_at, AllZip, IsMeasure, Reaches}
+use Rattle.measures.proofs.Common.{◌≤◌, ◌∙◌, List, ℕ, Player, ap, counts_of, subst, sym, value_at, AllZip, IsMeasure, Reaches}
 use Rattle.measures.specs.Proposal.{AreEnough}
-use Rattle.measures.specs.StoredProposal.{values_of}
+use Rattle.measures.specs.StoredProposal.{value_said, values_of}
 use Rattle.measures.proofs.StoredProposals.{bounds_wide, measure_bounded}
+use Rattle.measures.proofs.Values.{top_said}
 use Rattle.game.specs.Lent.{lent_vertex}
 use Rattle.measures.proofs.proposal.Proposals.is_good_at.Goals as goal
-use Rattle.measures.proofs.proposal.Proposals.is_good_at.Goals.{then-is_top, else-is_top}
+use Rattle.measures.proofs.proposal.Proposals.is_good_at.Goals.{then-own, else-own}
 
 pub returns-then-are_enough : goal.returns-then-are_enough
 returns-then-are_enough c = λ so g at bounded.
@@ -13,9 +14,9 @@ returns-then-are_enough c = λ so g at bounded.
     let x = lent_vertex c.args.vertex in
     let wide = bounds_wide g bounds bounded in
     record {
-      measure = subst (IsMeasure g) c.value-own.ensures (measure_bounded g c.value-own.result bounds bounded (λ n. elim c.if-is_top.branch [
-        | then-is_top w ↦ absurd (n (c.is_top.ensures.0 w.if-is_top.true))
-        | else-is_top w ↦ subst (λ (xs : List ℕ). AllZip (λ count bound. count ≤ bound) xs bounds) w.counts.ensures.value
+      measure = subst (IsMeasure g) c.proposed-own.ensures.value (measure_bounded g (value_said c.proposed-own.result) bounds bounded (λ n. elim c.if-own.branch [
+        | then-own w ↦ absurd (n (top_said c.proposed-own.result w.if-own.true))
+        | else-own w ↦ subst (λ (xs : List ℕ). AllZip (λ count bound. count ≤ bound) xs bounds) (w.counts.ensures.value ∙ ap counts_of w.measure.ensures)
             (w.are_within.ensures.0 (sym w.value-is ∙ c.if-not-are_within.false))
       ]));
       reaches = (
