@@ -11,8 +11,8 @@ use std::alloc::Global;
 /// Who wins each vertex, and the winner's moves, as they are guessed. Nothing is promised of them.
 #[derive(Drop)]
 pub struct Guess {
-    cells: List<Cell>,
-    reasons: List<Reason>,
+    pub(crate) cells: List<Cell>,
+    pub(crate) reasons: List<Reason>,
     // For each time one more than the priority of the vertex that was settled then, if it is bad in the end, and else 0.
     pub(crate) bad_at: List<u8>,
 }
@@ -26,14 +26,10 @@ impl Guess {
             reasons: List::filled(alloc, game.vertices() as usize, NO_REASON),
             bad_at: List::none(alloc),
         };
-        match settle_all(alloc, game, &mut guess.cells, &mut guess.reasons, gauge) {
-            Some(last) => {
-                guess.bad_at = List::filled(alloc, last as usize + 1, 0);
-                guess.note_bad(game);
-                Some(guess)
-            }
-            None => None,
-        }
+        let last = settle_all(alloc, game, &mut guess, gauge)?;
+        guess.bad_at = List::filled(alloc, last as usize + 1, 0);
+        guess.note_bad(game);
+        Some(guess)
     }
 
     fn note_bad(&mut self, game: &Game) {
@@ -44,10 +40,6 @@ impl Guess {
                 self.bad_at.set(time, cell.priority.saturating_add(1));
             }
         }
-    }
-
-    pub(crate) fn vertices(&self) -> usize {
-        self.cells.len()
     }
 
     pub(crate) fn cell(&self, v: u32) -> Cell {
@@ -65,9 +57,6 @@ impl Guess {
 
     /// Where the winner goes on from a vertex of its own.
     pub fn next(&self, v: u32) -> Option<u32> {
-        match self.reason(v).next {
-            NONE => None,
-            next => Some(next),
-        }
+        Some(self.reason(v).next).filter(|next| *next != NONE)
     }
 }

@@ -36,7 +36,7 @@ impl Guess {
     /// The ranks of what a player wins, of so many counts each. Where memory is refused they are wrong.
     pub fn ranks(&self, alloc: Global, player: Player, width: usize) -> Ranks<'_> {
         let words = self.bad_at.len().saturating_mul(width);
-        let most = self.vertices().saturating_mul(WORDS).saturating_add(1);
+        let most = self.cells.len().saturating_mul(WORDS).saturating_add(1);
         let mut ranks = Ranks {
             guess: &*self,
             player,
@@ -51,15 +51,25 @@ impl Guess {
 
 impl Ranks<'_> {
     fn fill(&mut self, alloc: Global) {
-        let mut counts = List::filled(alloc, self.width, 0);
+        let mut begun = List::filled(alloc, self.width, 0);
         let mut rest = 0_usize;
         for bad in self.guess.bad_at.as_slice() {
-            self.count(*bad, counts.as_mut_slice());
+            let place = self.kept(*bad);
+            begun.set(place, begun.get_or(place, 0_u32).wrapping_add(1));
             if rest == 0 {
-                self.table.extend(counts.as_slice());
+                self.push_row(begun.as_slice());
                 rest = self.step;
             }
             rest = rest.saturating_sub(1);
+        }
+    }
+
+    // Keeps a row, where it is told at each place how many counts begin there to count.
+    fn push_row(&mut self, begun: &[u32]) {
+        let mut sum = 0_u32;
+        for more in begun {
+            sum = sum.wrapping_add(*more);
+            self.table.push(sum);
         }
     }
 
@@ -75,7 +85,7 @@ impl Ranks<'_> {
     // Counts the vertex that was settled at a time.
     fn count(&self, bad: u8, counts: &mut [u32]) {
         for place in self.kept(bad)..counts.len() {
-            counts[place] = counts[place].saturating_add(1);
+            counts[place] = counts[place].wrapping_add(1);
         }
     }
 

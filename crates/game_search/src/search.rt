@@ -12,7 +12,8 @@
 //
 // At the end all is settled, and moves and winners fit.
 
-use crate::cells::{Cell, CellState, NO_REASON, NONE, NOWHERE, Reason, winner_by};
+use crate::cells::{Cell, CellState, NONE, Reason, winner_by};
+use crate::guess::Guess;
 use crate::layers::{Layers, PRIORITIES};
 use game::gauge::Gauge;
 use game::graph::Game;
@@ -21,8 +22,10 @@ use game::player::Player;
 use game::predecessors::Predecessors;
 use std::alloc::Global;
 
-// A prime greater than any row is long: with this step all of a row is come to.
+// A prime greater than any row is long: with this step all of a long row is come to. What is shorter is gone through one by one.
 const PRIME: u32 = 2_654_435_761;
+
+const LONG: usize = 16;
 
 // There may be so many looks at vertices and edges, and so many times those that see the game once.
 const LEAST_BUDGET: u64 = 67_108_864;
@@ -42,8 +45,7 @@ struct GameSearch<'g> {
     game: &'g Game,
     before: &'g Predecessors,
     gauge: Option<&'g Gauge>,
-    cells: &'g mut List<Cell>,
-    reasons: &'g mut List<Reason>,
+    guess: &'g mut Guess,
     // For each priority the open vertices, and others that were.
     open: Layers,
     // For each priority the calm vertices, and others that were.
@@ -62,8 +64,7 @@ struct GameSearch<'g> {
 pub(crate) fn settle_all(
     alloc: Global,
     game: &Game,
-    cells: &mut List<Cell>,
-    reasons: &mut List<Reason>,
+    guess: &mut Guess,
     gauge: Option<&Gauge>,
 ) -> Option<u32> {
     let Ok(before) = Predecessors::of(alloc, game) else {
@@ -73,8 +74,7 @@ pub(crate) fn settle_all(
         game,
         before: &before,
         gauge,
-        cells,
-        reasons,
+        guess,
         open: Layers::none(alloc),
         calm: Layers::none(alloc),
         changed: List::none(alloc),
@@ -131,28 +131,20 @@ impl GameSearch<'_> {
         size
     }
 
-    fn cell(&self, v: u32) -> Cell {
-        self.cells.get_or(v as usize, NOWHERE)
-    }
-
     fn put(&mut self, v: u32, cell: Cell) {
-        self.cells.set(v as usize, cell);
-    }
-
-    fn reason(&self, v: u32) -> Reason {
-        self.reasons.get_or(v as usize, NO_REASON)
+        self.guess.cells.set(v as usize, cell);
     }
 
     fn go(&mut self, v: u32, next: u32) {
         let time = self.now;
-        self.reasons.set(v as usize, Reason { next, time });
+        self.guess.reasons.set(v as usize, Reason { next, time });
     }
 
     // Looks at the open vertices of this priority: their successors' winners calm or turn them.
     fn look(&mut self, p: u8) {
         for _ in 0..u64::MAX {
             let Some(v) = self.open.pop(p) else { break };
-            let cell = self.cell(v);
+            let cell = self.guess.cell(v);
             if cell.state == CellState::Open {
                 self.look_at(v, cell);
             }
@@ -188,11 +180,12 @@ impl GameSearch<'_> {
     fn confirm(&mut self, p: u8) {
         for _ in 0..u64::MAX {
             let Some(v) = self.calm.pop(p) else { break };
-            let mut cell = self.cell(v);
+            let mut cell = self.guess.cell(v);
             if cell.state == CellState::Calm {
                 cell.state = CellState::Settled;
                 self.put(v, cell);
-                self.go(v, self.reason(v).next);
+                let next = self.guess.reason(v).next;
+                self.go(v, next);
             }
         }
     }
@@ -205,7 +198,7 @@ impl GameSearch<'_> {
             let Some(v) = self.unsupported.pop() else {
                 break
             };
-            if self.cell(v).winner == winner_by(p) {
+            if self.guess.cell(v).winner == winner_by(p) {
                 self.unsettle(v);
             }
         }
@@ -238,12 +231,13 @@ impl GameSearch<'_> {
 
     // Whether a vertex has its winner by way of this successor: by the move, or by all steps.
     fn rests_on(&self, u: u32, cell: Cell, t: u32) -> bool {
-        cell.state != CellState::Open && (cell.winner != cell.owner || self.reason(u).next == t)
+        cell.state != CellState::Open
+            && (cell.winner != cell.owner || self.guess.reason(u).next == t)
     }
 
     // Takes a vertex that led to what turned, if its winner has no other way, and its priority is no greater.
     fn take(&mut self, u: u32, turned: u32, p: u8) {
-        let cell = self.cell(u);
+        let cell = self.guess.cell(u);
         let loser = winner_by(p);
         if cell.winner != loser || !self.rests_on(u, cell, turned) {
             return;
@@ -266,13 +260,14 @@ impl GameSearch<'_> {
     }
 
     fn fall(&mut self, u: u32, opened: u32) {
-        if self.rests_on(u, self.cell(u), opened) {
+        let cell = self.guess.cell(u);
+        if self.rests_on(u, cell, opened) {
             self.unsettle(u);
         }
     }
 
     fn unsettle(&mut self, v: u32) {
-        let mut cell = self.cell(v);
+        let mut cell = self.guess.cell(v);
         match cell.state {
             CellState::Open => return,
             CellState::Calm => {}
@@ -284,13 +279,17 @@ impl GameSearch<'_> {
         self.open.push(cell.priority, v);
     }
 
-    // Settles what open vertices of less than this priority draw, and what that draws, the greatest priority first.
+    // Settles what open vertices of less than this priority draw, and what that draws, the greatest priority first. Those of the least draw nothing.
     fn draw(&mut self, p: u8) {
-        for q in (0..p).rev() {
+        let is_any = |q: &u8| self.open.at(*q, 0).is_some();
+        let least = (0..p).find(is_any).unwrap_or(p);
+        for q in (least..p).rev() {
             if let Some(gauge) = self.gauge {
                 gauge.put(self.looks);
             }
-            self.draw_from(q);
+            if q > least {
+                self.draw_from(q);
+            }
         }
     }
 
@@ -299,8 +298,8 @@ impl GameSearch<'_> {
             let Some(v) = self.open.at(p, place) else {
                 break
             };
-            if self.cell(v).state == CellState::Open {
-                self.changed.push(v);
+            if self.guess.cell(v).state == CellState::Open {
+                self.pass(v, ChangeAction::Join, p);
                 self.spread(ChangeAction::Join, p);
             }
         }
@@ -308,16 +307,16 @@ impl GameSearch<'_> {
 
     // Settles an open vertex of less than this priority, if its solid successors do. This one is solid now.
     fn join(&mut self, u: u32, drawn: u32, p: u8) {
-        let cell = self.cell(u);
+        let cell = self.guess.cell(u);
         if cell.state != CellState::Open || cell.priority >= p {
             return;
         }
-        let next = if self.cell(drawn).winner == cell.owner {
+        let next = if self.guess.cell(drawn).winner == cell.owner {
             drawn
         } else {
             self.choose(u, cell, p)
         };
-        if next == NONE || self.cell(next).is_solid(p) {
+        if next == NONE || self.guess.cell(next).is_solid(p) {
             self.settle(u, cell, next);
         } else {
             self.go(u, next);
@@ -326,31 +325,33 @@ impl GameSearch<'_> {
 
     // A solid successor that the owner wins, or else one that isn't solid, or `NONE`. Of priority 0 all are solid.
     fn choose(&mut self, u: u32, cell: Cell, p: u8) -> u32 {
-        let hint = if p == 0 { NONE } else { self.reason(u).next };
-        if hint != NONE && !self.cell(hint).is_solid(p) {
+        let hint = if p == 0 {
+            NONE
+        } else {
+            self.guess.reason(u).next
+        };
+        if hint != NONE && !self.guess.cell(hint).is_solid(p) {
             return hint;
         }
         let row = successors(self.game, u);
-        let length = row.len();
-        if length == 0 {
-            return NONE;
-        }
+        let len = row.len();
         // What turns first often stands first, so it is by chance where to look first, and what to look at next.
-        let mut place = self.now.wrapping_mul(PRIME) as usize % length;
-        let step = PRIME as usize % length;
+        let chance = u64::from(self.now.wrapping_mul(PRIME)).wrapping_mul(len as u64);
+        let mut place = (chance >> 32) as usize;
+        let step = if len < LONG { 1 } else { PRIME as usize % len };
         let mut other = NONE;
-        for _ in 0..length {
+        for _ in 0..len {
             self.looks = self.looks.saturating_add(1);
-            let t = if place < length { row[place] } else { NONE };
-            let next = self.cell(t);
+            let t = if place < len { row[place] } else { NONE };
+            let next = self.guess.cell(t);
             if !next.is_solid(p) {
                 other = t;
             } else if next.winner == cell.owner {
                 return t;
             }
             place = place.wrapping_add(step);
-            if place >= length {
-                place = place.wrapping_sub(length);
+            if place >= len {
+                place = place.wrapping_sub(len);
             }
         }
         other
