@@ -1,5 +1,5 @@
 -- What lines are made of.
-use Rattle.std.proofs.Common.{◌≡◌, ℕ, zero, suc, ◌+◌, ◌≤◌, ◌<◌, List, [], ◌∷◌, ◌++◌, length, map, refl, ◌∙◌, arith, append_assoc, codes}
+use Rattle.std.proofs.Common.{◌≡◌, ℕ, zero, suc, ◌≤◌, ◌<◌, List, [], ◌∷◌, ◌++◌, length, map, refl, ◌∙◌, arith, append_assoc, codes}
 use Rattle.std.proofs.Common.{Some, get_or}
 use Rattle.std.specs.Prelude.{◌==◌, decimal, filter, slice_get}
 use Rattle.std.specs.List.{AllByRecursion}

@@ -16,7 +16,7 @@ use Rattle.evidence.specs.declared.verdict.Fault.TheVariants.{Leaves}
 use Rattle.witness.specs.Walk.{AreGoals, is_marked, unmarked_vertices}
 use Rattle.witness.proofs.Setting.{one_fewer, set_adds}
 use Rattle.why.specs.Telling.{Comes, GoesOnlyTo, IsOfKind, IsTelling, IsVisit, LeadsOn, WasTold, deeper, goes_on, way_to}
-use Rattle.why.specs.Walk.{HasAdded, HasLetWait, HasTold, HasTwo, IsWalk, IsWalkBy, count_of, left, way_on}
+use Rattle.why.specs.Walk.{HasAdded, HasLetWait, HasTold, HasTwo, IsWalk, IsWalkBy, count_of, way_on}
 use Rattle.why.specs.declared.visit.Continuation.{Continuation}
 use Rattle.why.specs.declared.visit.Continuation.TheVariants.{On, Branch, Sink, Back, Told}
 use Rattle.why.specs.declared.visit.Visit.{Visit}

@@ -1,8 +1,8 @@
 -- The text of a telling.
-use Rattle.std.specs.Prelude.{◌≡◌, ℕ, zero, suc, ◌+◌, ◌≤◌, ◌≢◌, ◌-◌, ◌/◌, ◌%◌, Bool, true, false, not, ◌&&◌, ◌||◌, ◌==◌, List, [], ◌∷◌, ◌++◌, Option, None, Some, length, take, replicate, codes, decimal}
+use Rattle.std.specs.Prelude.{◌≡◌, ℕ, zero, suc, ◌+◌, ◌≤◌, ◌≢◌, ◌-◌, ◌/◌, ◌%◌, Bool, true, false, not, ◌&&◌, ◌||◌, ◌==◌, List, [], ◌∷◌, ◌++◌, Option, None, Some, length, take, drop, replicate, codes, decimal}
 use Rattle.std.specs.Prelude.{nat_le, nat_lt, slice_get, IsTrue, ◌↔◌, ◌⊎◌, ◌<◌, slice_index_or, if◌then◌else◌}
 use Rattle.std.specs.List.{list_any}
-use Rattle.std.specs.Option.{is_some}
+use Rattle.std.specs.Option.{is_none, is_some}
 use Rattle.std.specs.Str.{bytes_eq}
 use Rattle.systems.specs.System.{Arrow, System}
 use Rattle.systems.specs.Numbered.{arrows_from}
@@ -13,11 +13,12 @@ use Rattle.calculus.specs.Canon.{action_text}
 use Rattle.calculus.specs.Holds.{holds}
 use Rattle.calculus.specs.Nodes.{Node}
 use Rattle.calculus.specs.NormalTree.{Shape, ConstantNode, ModalityNode}
+use Rattle.calculus.specs.declared.limits.TheConstants.{MOST_NODES}
 use Rattle.why.specs.Telling.{goes_on}
 use Rattle.why.specs.declared.visit.Continuation.{Continuation}
 use Rattle.why.specs.declared.visit.Continuation.TheVariants.{On, Branch, Sink, Back, Told}
 use Rattle.why.specs.declared.visit.Visit.{Visit}
-use Rattle.why.specs.declared.visit.TheConstants.{MOST_BLANKS, MOST_COLUMNS}
+use Rattle.why.specs.declared.visit.TheConstants.{MOST_BLANKS, MOST_COLUMNS, MOST_SHOWN}
 
 -- the state of a vertex, where there are so many nodes
 abbrev pub state_of : ℕ → ℕ → ℕ
@@ -34,10 +35,6 @@ shape_at nodes v = shape_in (slice_get nodes ((v - 2) % length nodes))
 abbrev pub blanks_before : ℕ → List ℕ
 blanks_before n = take n (replicate MOST_BLANKS 32)
 
--- what is longer than MOST_COLUMNS is cut there
-abbrev pub cut : List ℕ → List ℕ
-cut text = if nat_lt MOST_COLUMNS (length text) then take MOST_COLUMNS text ++ codes ".." else text
-
 -- a modality without what stands behind it, as `<ACTION>` or `[ACTION]`, and nothing of another node
 abbrev pub modality_text : Shape → List ℕ
 modality_text (ModalityNode true a child) = codes "<" ++ (action_text a ++ codes ">")
@@ -45,10 +42,45 @@ modality_text (ModalityNode false a child) = codes "[" ++ (action_text a ++ code
 modality_text _ = []
 
 abbrev pub modality_at : List Node → ℕ → List ℕ
-modality_at nodes v = cut (modality_text (shape_at nodes v))
+modality_at nodes v = modality_text (shape_at nodes v)
 
 abbrev pub modality_of : Node → List ℕ
-modality_of node = cut (modality_text node.shape)
+modality_of node = modality_text node.shape
+
+-- the number of a modality, counted from here on: that of the first of these vertices which has it
+abbrev pub number_from : List Node → ℕ → (long : List ℕ) → (modality : List ℕ) → Option ℕ
+number_from nodes k [] text = None
+number_from nodes k (v ∷ long) text = if bytes_eq (modality_at nodes v) text then Some k else number_from nodes (suc k) long text
+
+-- It is longer than MOST_COLUMNS, and none of these vertices has it. Of those there are no more than nodes.
+abbrev pub is_another : List Node → (long : List ℕ) → (modality : List ℕ) → Bool
+is_another nodes long text = nat_lt MOST_COLUMNS (length text) && (is_none (number_from nodes 1 long text) && nat_lt (length long) MOST_NODES)
+
+-- with the vertex from which a step is taken, where its modality is another long one
+abbrev pub long_with : List Node → (long : List ℕ) → (from : Option ℕ) → List ℕ
+long_with nodes long None = long
+long_with nodes long (Some u) = if is_another nodes long (modality_at nodes u) then long ++ u ∷ [] else long
+
+abbrev pub from_of : Option Visit → Option ℕ
+from_of None = None
+from_of (Some v) = v.way.from
+
+-- the vertices from which steps by long modalities lead to the visits before this one, the first one of each modality
+abbrev pub long_before : List Node → List Visit → ℕ → List ℕ
+long_before nodes visits zero = []
+long_before nodes visits (suc i) = long_with nodes (long_before nodes visits i) (from_of (slice_get visits i))
+
+-- the first MOST_SHOWN bytes, and the last one
+abbrev pub cut_line : List ℕ → List ℕ
+cut_line text = take MOST_SHOWN text ++ (codes ".." ++ (drop (length text - 1) text ++ line_end))
+
+-- `[number] = modality`, cut
+abbrev pub long_line : List Node → (number vertex : ℕ) → List ℕ
+long_line nodes k v = codes "[" ++ (decimal k ++ (codes "] = " ++ cut_line (modality_at nodes v)))
+
+-- that of the long modality of this number, from 0 on
+abbrev pub long_line_at : List Node → (long : List ℕ) → ℕ → List ℕ
+long_line_at nodes long i = long_line nodes (suc i) (slice_index_or long i 0)
 
 -- the action formula of a modality
 abbrev pub action_in : Shape → Option Action
@@ -68,21 +100,28 @@ abbrev pub modality_told : List Node → (before : Option ℕ) → (from : ℕ) 
 modality_told nodes None u = modality_at nodes u
 modality_told nodes (Some w) u = if bytes_eq (modality_at nodes w) (modality_at nodes u) then [] else modality_at nodes u
 
-abbrev pub by_text : (modality : List ℕ) → List ℕ
-by_text [] = []
-by_text (c ∷ text) = codes " by " ++ c ∷ text
+-- a modality, by its number where it has one
+abbrev pub by_text : (number : Option ℕ) → (modality : List ℕ) → List ℕ
+by_text number [] = line_end
+by_text None (c ∷ text) = codes " by " ++ (c ∷ text ++ line_end)
+by_text (Some k) (c ∷ text) = codes " by [" ++ (decimal k ++ (codes "]" ++ line_end))
 
--- `source -label-> target` and its modality
-abbrev pub step_text : System → List Node → (before : Option ℕ) → (from vertex blanks : ℕ) → Option Action → List ℕ
-step_text l nodes before u v blanks (Some a) =
+-- `source -label-> target`
+abbrev pub arrow_text : System → List Node → (from vertex blanks : ℕ) → Action → List ℕ
+arrow_text l nodes u v blanks a =
     blanks_before blanks ++ (decimal (state_of (length nodes) u) ++ (codes " -" ++ (first_label a (state_of (length nodes) v) (arrows_from l (state_of (length nodes) u))
-    ++ (codes "-> " ++ (decimal (state_of (length nodes) v) ++ (by_text (modality_told nodes before u) ++ line_end))))))
-step_text l nodes before u v blanks None = []
+    ++ (codes "-> " ++ decimal (state_of (length nodes) v)))))
+
+-- the same and its modality
+abbrev pub step_text : System → List Node → (long : List ℕ) → (before : Option ℕ) → (from vertex blanks : ℕ) → Option Action → List ℕ
+step_text l nodes long before u v blanks (Some a) =
+    arrow_text l nodes u v blanks a ++ by_text (number_from nodes 1 long (modality_told nodes before u)) (modality_told nodes before u)
+step_text l nodes long before u v blanks None = []
 
 -- the step that leads to a visit: from a vertex with a modality
-abbrev pub way_text : System → List Node → (before : Option ℕ) → (from : Option ℕ) → (vertex blanks : ℕ) → List ℕ
-way_text l nodes before None v blanks = []
-way_text l nodes before (Some u) v blanks = step_text l nodes before u v blanks (action_at nodes u)
+abbrev pub way_text : System → List Node → (long : List ℕ) → (before : Option ℕ) → (from : Option ℕ) → (vertex blanks : ℕ) → List ℕ
+way_text l nodes long before None v blanks = []
+way_text l nodes long before (Some u) v blanks = step_text l nodes long before u v blanks (action_at nodes u)
 
 -- before the first step of what comes again and again
 abbrev pub head_text : Bool → (blanks : ℕ) → List ℕ
@@ -127,14 +166,14 @@ step_before nodes visits zero = None
 step_before nodes visits (suc i) = after_visit nodes (slice_get visits i) (step_before nodes visits i)
 
 -- the lines of a visit: the step that leads to it, where a loop begins, and how its run ends
-abbrev pub visit_text : System → List Node → (before : Option ℕ) → (head : Bool) → Option Visit → List ℕ
-visit_text l nodes before head None = []
-visit_text l nodes before head (Some v) =
-    way_text l nodes before v.way.from v.way.vertex v.way.blanks ++ (head_text head v.way.blanks ++ end_text l nodes v.way.vertex v.way.blanks v.kind)
+abbrev pub visit_text : System → List Node → (long : List ℕ) → (before : Option ℕ) → (head : Bool) → Option Visit → List ℕ
+visit_text l nodes long before head None = []
+visit_text l nodes long before head (Some v) =
+    way_text l nodes long before v.way.from v.way.vertex v.way.blanks ++ (head_text head v.way.blanks ++ end_text l nodes v.way.vertex v.way.blanks v.kind)
 
 -- the lines of the visit of this number
-abbrev pub text_at : System → List Node → List Visit → (heads : List Bool) → ℕ → List ℕ
-text_at l nodes visits heads i = visit_text l nodes (step_before nodes visits i) (slice_index_or heads i false) (slice_get visits i)
+abbrev pub text_at : System → List Node → (long : List ℕ) → List Visit → (heads : List Bool) → ℕ → List ℕ
+text_at l nodes long visits heads i = visit_text l nodes long (step_before nodes visits i) (slice_index_or heads i false) (slice_get visits i)
 
 -- The marks are those of the visits to which a run comes back.
 abbrev pub AreHeads : List Visit → List Bool → Type 0
@@ -174,8 +213,13 @@ pub record IsCut (nodes : List Node) (visits : List Visit) (heads : List Bool) (
 abbrev pub rest_text : (most count visits : ℕ) → List ℕ
 rest_text most count visits = if nat_lt count visits || nat_le most visits then codes ".. (--limit 0 tells all)" ++ line_end else []
 
+-- the long modalities, the lines of the visits, and what stands behind them
+abbrev pub told_text : System → List Node → (long : List ℕ) → (most : ℕ) → List Visit → (heads : List Bool) → (count : ℕ) → List ℕ
+told_text l nodes long most visits heads count =
+    lines_from (long_line_at nodes long) 0 (length long) ++ (lines_from (text_at l nodes long visits heads) 0 count ++ rest_text most count (length visits))
+
 abbrev pub story_text : System → List Node → (most : ℕ) → List Visit → (heads : List Bool) → (count : ℕ) → List ℕ
-story_text l nodes most visits heads count = lines_from (text_at l nodes visits heads) 0 count ++ rest_text most count (length visits)
+story_text l nodes most visits heads count = told_text l nodes (long_before nodes visits count) most visits heads count
 
 abbrev pub is_branch : Continuation → Bool
 is_branch Branch = true

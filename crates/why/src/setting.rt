@@ -7,9 +7,9 @@ ghost use Rattle.calculus.specs.View.{action_of};
 ghost use Rattle.calculus.specs.Normal.{normal_nodes};
 ghost use Rattle.calculus.specs.NodeView.{shape_of};
 ghost use Rattle.why.specs.Story.{has_branch as has_branch_of, lines_of as lines_of_visit, verdict_text};
-ghost use Rattle.why.specs.Story.{AreHeads, HasMarked, IsCut, cut as cut_of, modality_of, modality_text as modality_text_of};
+ghost use Rattle.why.specs.Story.{AreHeads, HasMarked, IsCut, modality_of, modality_text as modality_text_of};
 
-use crate::visit::{Continuation, MOST_COLUMNS, Visit};
+use crate::visit::{Continuation, Visit};
 use crate::writer::action_at;
 use calculus::form::Normal;
 use calculus::tree::Act;
@@ -24,21 +24,9 @@ pub fn modality_texts(alloc: Global, normal: &Normal) -> Result<Vec<Vec<u8>>, Me
 {
     let mut texts = Vec::new(alloc);
     for node in normal.nodes() {
-        texts.push(cut(modality_text(alloc, &node.kind)?)?)?;
+        texts.push(modality_text(alloc, &node.kind)?)?;
     }
     Ok(texts)
-}
-
-/// A text, cut where it is longer than is told of one.
-fn cut(text: Vec<u8>) -> Result<Vec<u8>, Memory>
-    ensures { IfOk result (λ cut. cut.items ≡ cut_of text.items) }
-{
-    let mut text = text;
-    if text.len() > MOST_COLUMNS {
-        text.truncate(MOST_COLUMNS);
-        text.extend_from_slice(b"..")?;
-    }
-    Ok(text)
 }
 
 fn modality_text(alloc: Global, kind: &node::Kind) -> Result<Vec<u8>, Memory>

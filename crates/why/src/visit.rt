@@ -3,8 +3,11 @@
 /// How many blanks a line begins with at most.
 pub const MOST_BLANKS: usize = 80;
 
-/// How many columns of a modality are told at most.
+/// How many columns a modality has at most that is told in its lines. One that is longer has a number.
 pub const MOST_COLUMNS: usize = 80;
+
+/// How many columns of a modality with a number are told before its last one.
+pub const MOST_SHOWN: usize = 70;
 
 /// A way on which a play comes to a vertex: from another one, or as it begins. Its line begins with so many blanks.
 #[derive(Clone, Copy, Debug, PartialEq, Eq)]

@@ -1,17 +1,21 @@
 // The text of a telling.
 
-ghost use Rattle.std.specs.Prelude.{◌≡◌, ◌<◌, ◌≤◌, ◌++◌, ◌-◌, ◌%◌, Some, option_map, length, map};
+ghost use Rattle.std.specs.Prelude.{◌≡◌, ◌<◌, ◌≤◌, ◌-◌, ◌%◌, Some, option_map, drop, length, map, take};
 ghost use Rattle.systems.specs.Numbered.{IsInside, arrow_of, arrows_from};
 ghost use Rattle.text.specs.Wrote.{Wrote};
 ghost use Rattle.calculus.specs.View.{action_of};
 ghost use Rattle.calculus.specs.Normal.{normal_nodes};
 ghost use Rattle.calculus.specs.NodeView.{shape_of};
-ghost use Rattle.why.specs.Story.{action_at as action_at_of, action_in as action_in_of, blanks_before, by_text, end_text, first_label as first_label_of, head_text, lack_text, modality_at as modality_at_of};
-ghost use Rattle.why.specs.Story.{modality_of, modality_told as modality_told_of, shape_at, sink_text, state_of as state_in, step_before as step_before_of, step_text, rest_text, story_text, way_text};
+ghost use Rattle.why.specs.declared.visit.TheConstants.{MOST_SHOWN};
+ghost use Rattle.why.specs.Story.{action_at as action_at_of, action_in as action_in_of, arrow_text, blanks_before, by_text, end_text, first_label as first_label_of, from_of, head_text, lack_text, long_before, long_line, long_with};
+ghost use Rattle.why.specs.Story.{modality_at as modality_at_of, modality_of, modality_told as modality_told_of, number_from, shape_at, sink_text, state_of as state_in};
+ghost use Rattle.why.specs.Story.{step_before as step_before_of, step_text, rest_text, story_text, told_text, way_text};
 
 use crate::setting::{is_head, put_between};
-use crate::visit::{Continuation, MOST_BLANKS, Visit, Way};
+use crate::visit::{Continuation, MOST_BLANKS, MOST_COLUMNS, MOST_SHOWN, Visit, Way};
+use arrayvec::ArrayVec;
 use calculus::form::Normal;
+use calculus::limits::MOST_NODES;
 use calculus::tree::Act;
 use calculus::{holds, node};
 use lts::{Lts, Transition};
@@ -39,25 +43,57 @@ pub struct Story<'a> {
     ghost within: { count ≤ length visits.now },
 }
 
-impl Lines for Story<'_> {
+/// A story, and vertices from which its steps by long modalities are taken. Its lines are those of the visits.
+#[derive(Clone, Copy)]
+struct Told<'a> {
+    story: Story<'a>,
+    long: &'a [u32],
+}
+
+impl Lines for Told<'_> {
     ghost use Rattle.calculus.specs.Normal.{normal_nodes};
     ghost use Rattle.why.specs.Story.{text_at};
 
-    ghost count = { λ story. story.count };
+    ghost count = { λ told. told.story.count };
 
-    ghost line = { λ story. text_at story.system.now.system (normal_nodes story.normal.now) story.visits.now story.heads.now };
+    ghost line = { λ told. let s = told.story in text_at s.system.now.system (normal_nodes s.normal.now) told.long.now s.visits.now s.heads.now };
 
     fn count(&self) -> usize {
-        self.count
+        self.story.count
     }
 
     fn put_line<W: Sink>(&self, number: usize, writer: &mut W) -> Result<(), WriteFault> {
-        let visit = self.visits[number];
-        let head = is_head(self.heads, number);
+        let visit = self.story.visits[number];
+        let head = is_head(self.story.heads, number);
         let blanks = visit.way.blanks;
         put_way(self, number, visit.way, writer)?;
         put_head(head, blanks, writer)?;
-        put_end(self, visit.way.vertex, blanks, visit.kind, writer)
+        put_end(&self.story, visit.way.vertex, blanks, visit.kind, writer)
+    }
+}
+
+/// The lines of the long modalities.
+#[derive(Clone, Copy)]
+struct LongLines<'a> {
+    told: Told<'a>,
+}
+
+impl Lines for LongLines<'_> {
+    ghost use Rattle.std.specs.Prelude.{length};
+    ghost use Rattle.calculus.specs.Normal.{normal_nodes};
+    ghost use Rattle.why.specs.Story.{long_line_at};
+
+    ghost count = { λ lines. length lines.told.long.now };
+
+    ghost line = { λ lines. long_line_at (normal_nodes lines.told.story.normal.now) lines.told.long.now };
+
+    fn count(&self) -> usize {
+        self.told.long.len()
+    }
+
+    fn put_line<W: Sink>(&self, number: usize, writer: &mut W) -> Result<(), WriteFault> {
+        let vertex = self.told.long.get(number).copied().unwrap_or(0);
+        put_long(&self.told.story, number as u64 + 1, vertex, writer)
     }
 }
 
@@ -69,8 +105,91 @@ pub fn write_story<W: Sink>(story: &Story<'_>, out: &mut W) -> Result<(), WriteF
     ensures { let s = story.now in Wrote (W.taken out.old) (W.taken out.new) result
         (story_text s.system.now.system (normal_nodes s.normal.now) s.most s.visits.now s.heads.now s.count) }
 {
-    put_lines(story, out)?;
+    let long = long_ones(story);
+    let told = Told {
+        story: *story,
+        long: long.as_slice(),
+    };
+    put_told(&told, out)
+}
+
+/// Writes the lines of the long modalities and those of the visits.
+fn put_told<W: Sink>(told: &Told<'_>, out: &mut W) -> Result<(), WriteFault>
+    ensures { let s = told.now.story in Wrote (W.taken out.old) (W.taken out.new) result
+        (told_text s.system.now.system (normal_nodes s.normal.now) told.now.long.now s.most s.visits.now s.heads.now s.count) }
+{
+    put_lines(&LongLines { told: *told }, out)?;
+    put_lines(told, out)?;
+    let story = told.story;
     put_rest(story.most, story.count, story.visits.len(), out)
+}
+
+/// The vertices from which steps that are told are taken by long modalities, the first of each.
+fn long_ones(story: &Story<'_>) -> ArrayVec<u32, MOST_NODES>
+    ensures { let s = story.now in result.items ≡ long_before (normal_nodes s.normal.now) s.visits.now s.count }
+{
+    let mut long = ArrayVec::new();
+    for i in 0..story.count {
+        note(story, story.visits.get(i).copied(), &mut long);
+    }
+    long
+}
+
+/// Notes the vertex from which the step to a visit is taken, where its modality is another long one.
+fn note(story: &Story<'_>, visit: Option<Visit>, long: &mut ArrayVec<u32, MOST_NODES>)
+    ensures { long.new.items ≡ long_with (normal_nodes story.now.normal.now) long.old.items (from_of visit) }
+{
+    let Some(visit) = visit else {
+        return;
+    };
+    let Some(from) = visit.way.from else {
+        return;
+    };
+    let modality = modality_at(story, from);
+    if modality.len() > MOST_COLUMNS
+        && number_of(story, long.as_slice(), modality).is_none()
+        && !long.is_full()
+    {
+        long.push(from);
+    }
+}
+
+/// The number of a modality, where it is that of one of these vertices.
+fn number_of(story: &Story<'_>, long: &[u32], modality: &[u8]) -> Option<u64>
+    ensures { result ≡ number_from (normal_nodes story.now.normal.now) 1 long.now modality.now }
+{
+    let mut number = 1;
+    for v in long {
+        if modality_at(story, *v) == modality {
+            return Some(number);
+        }
+        number += 1;
+    }
+    None
+}
+
+/// Writes a long modality behind its number.
+fn put_long<W: Sink>(
+    story: &Story<'_>,
+    number: u64,
+    vertex: u32,
+    out: &mut W,
+) -> Result<(), WriteFault>
+    ensures { Wrote (W.taken out.old) (W.taken out.new) result (long_line (normal_nodes story.now.normal.now) number vertex) }
+{
+    let modality = modality_at(story, vertex);
+    put_pieces(
+        out,
+        &[
+            Piece::Bytes(b"["),
+            Piece::Number(number),
+            Piece::Bytes(b"] = "),
+            Piece::Bytes(begin_of(modality)),
+            Piece::Bytes(b".."),
+            Piece::Bytes(end_of(modality)),
+            Piece::Bytes(b"\n"),
+        ],
+    )
 }
 
 /// Writes that there is more, or may be.
@@ -89,43 +208,66 @@ fn put_rest<W: Sink>(
     }
 }
 
+/// What is told of a long modality before its last byte.
+fn begin_of(modality: &[u8]) -> &[u8]
+    ensures { result.now ≡ take MOST_SHOWN modality.now }
+{
+    &modality[..MOST_SHOWN.min(modality.len())]
+}
+
+/// The last byte of a modality.
+fn end_of(modality: &[u8]) -> &[u8]
+    ensures { result.now ≡ drop (length modality.now - 1) modality.now }
+{
+    &modality[modality.len().saturating_sub(1)..]
+}
+
 /// Writes the step that leads to the visit of this number.
-fn put_way<W: Sink>(
-    story: &Story<'_>,
-    number: usize,
-    way: Way,
-    out: &mut W,
-) -> Result<(), WriteFault>
-    requires { number < length story.now.visits.now }
-    ensures { let s = story.now in let nodes = normal_nodes s.normal.now in Wrote (W.taken out.old) (W.taken out.new) result
-        (way_text s.system.now.system nodes (step_before_of nodes s.visits.now number) way.from way.vertex way.blanks) }
+fn put_way<W: Sink>(told: &Told<'_>, number: usize, way: Way, out: &mut W) -> Result<(), WriteFault>
+    requires { number < length told.now.story.visits.now }
+    ensures { let s = told.now.story in let nodes = normal_nodes s.normal.now in Wrote (W.taken out.old) (W.taken out.new) result
+        (way_text s.system.now.system nodes told.now.long.now (step_before_of nodes s.visits.now number) way.from way.vertex way.blanks) }
 {
     let Some(from) = way.from else {
         return Ok(());
     };
-    match action_at(story.normal, from) {
-        Some(action) => put_step(story, number, way, from, action, out),
+    match action_at(told.story.normal, from) {
+        Some(action) => put_step(told, number, way, from, action, out),
         None => Ok(()),
     }
 }
 
 /// Writes a step from a vertex with a modality of this action.
 fn put_step<W: Sink>(
-    story: &Story<'_>,
+    told: &Told<'_>,
     number: usize,
     way: Way,
     from: u32,
     action: &Act,
     out: &mut W,
 ) -> Result<(), WriteFault>
-    requires { number < length story.now.visits.now }
-    ensures { let s = story.now in let nodes = normal_nodes s.normal.now in Wrote (W.taken out.old) (W.taken out.new) result
-        (step_text s.system.now.system nodes (step_before_of nodes s.visits.now number) from way.vertex way.blanks (Some (action_of action.now))) }
+    requires { number < length told.now.story.visits.now }
+    ensures { let s = told.now.story in let nodes = normal_nodes s.normal.now in Wrote (W.taken out.old) (W.taken out.new) result
+        (step_text s.system.now.system nodes told.now.long.now (step_before_of nodes s.visits.now number) from way.vertex way.blanks (Some (action_of action.now))) }
+{
+    put_arrow(&told.story, way, from, action, out)?;
+    put_by(told, modality_told(&told.story, number, from), out)
+}
+
+/// Writes from where to where a step leads, and a label by which it does.
+fn put_arrow<W: Sink>(
+    story: &Story<'_>,
+    way: Way,
+    from: u32,
+    action: &Act,
+    out: &mut W,
+) -> Result<(), WriteFault>
+    ensures { let s = story.now in Wrote (W.taken out.old) (W.taken out.new) result
+        (arrow_text s.system.now.system (normal_nodes s.normal.now) from way.vertex way.blanks (action_of action.now)) }
 {
     let source = state_of(story.normal, from);
     let target = state_of(story.normal, way.vertex);
     let steps = steps_from(story.system, source);
-    let modality = modality_told(story, number, from);
     put_pieces(
         out,
         &[
@@ -135,18 +277,37 @@ fn put_step<W: Sink>(
             Piece::Bytes(first_label(story.system, steps, action, target)),
             Piece::Bytes(b"-> "),
             Piece::Number(u64::from(target)),
-            Piece::Bytes(lead(modality)),
-            Piece::Bytes(modality),
-            Piece::Bytes(b"\n"),
         ],
     )
 }
 
-/// What stands before a modality.
-fn lead(modality: &[u8]) -> &'static [u8]
-    ensures { result.now ++ modality.now ≡ by_text modality.now }
+/// Writes by which modality a step is taken, where it has to be told, and the line's end.
+fn put_by<W: Sink>(told: &Told<'_>, modality: &[u8], out: &mut W) -> Result<(), WriteFault>
+    ensures { let nodes = normal_nodes told.now.story.normal.now in Wrote (W.taken out.old) (W.taken out.new) result
+        (by_text (number_from nodes 1 told.now.long.now modality.now) modality.now) }
 {
-    if modality.is_empty() { b"" } else { b" by " }
+    if modality.is_empty() {
+        return put(out, b"\n");
+    }
+    match number_of(&told.story, told.long, modality) {
+        Some(number) => put_pieces(
+            out,
+            &[
+                Piece::Bytes(b" by ["),
+                Piece::Number(number),
+                Piece::Bytes(b"]"),
+                Piece::Bytes(b"\n"),
+            ],
+        ),
+        None => put_pieces(
+            out,
+            &[
+                Piece::Bytes(b" by "),
+                Piece::Bytes(modality),
+                Piece::Bytes(b"\n"),
+            ],
+        ),
+    }
 }
 
 /// The modality by which the step to the visit of this number is taken, and nothing where the line before is a step by the same one.

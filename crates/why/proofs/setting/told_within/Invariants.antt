@@ -1,4 +1,4 @@
-use Rattle.std.proofs.Common.{◌≡◌, ◌<◌, ◌≤◌, ◌+◌, ℕ}
+use Rattle.std.proofs.Common.{◌≡◌, ◌≤◌}
 use Rattle.calculus.specs.Normal.{normal_nodes}
 use Rattle.why.specs.Story.{lines_before}
 use Rattle.why.proofs.setting.told_within.Given as goal

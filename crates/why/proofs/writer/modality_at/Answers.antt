@@ -2,12 +2,12 @@ use Rattle.std.proofs.Common.{◌≡◌, ◌-◌, ◌%◌, ℕ, List, Some, ap, 
 use Rattle.std.specs.Prelude.{slice_get}
 use Rattle.calculus.specs.Nodes.{Node}
 use Rattle.calculus.specs.Normal.{normal_nodes}
-use Rattle.why.specs.Story.{modality_at, modality_of, modality_text, cut, shape_in}
+use Rattle.why.specs.Story.{modality_at, modality_of, modality_text, shape_in}
 use Rattle.why.proofs.Lines.{same_maps}
 use Rattle.why.proofs.writer.modality_at.Goals as goal
 
 text_of : (nodes : List Node) (v k : ℕ) (node : Node) → k ≡ (v - 2) % length nodes → slice_get nodes k ≡ Some node → modality_of node ≡ modality_at nodes v
-text_of nodes v k node number at = ap (λ o. cut (modality_text (shape_in o))) (sym at ∙ ap (slice_get nodes) number)
+text_of nodes v k node number at = ap (λ o. modality_text (shape_in o)) (sym at ∙ ap (slice_get nodes) number)
 
 pub returns : goal.returns
 returns c =
