@@ -1,5 +1,5 @@
 -- What is read of the matches.
-use Rattle.std.proofs.Common.{◌≡◌, ◌∙◌, ap₂, refl, subst, sym, ℕ, ◌<◌, ◌^◌, List, Option, Some, None, Result, Ok, Err}
+use Rattle.std.proofs.Common.{◌≡◌, ◌∙◌, refl, subst, sym, ℕ, ◌<◌, ◌^◌, List, Option, Some, None, Result, Ok, Err}
 use Rattle.std.specs.Prelude.{option_map}
 use Rattle.std.specs.Borrow.{Bor}
 use Rattle.std.specs.Str.Parse.{IsNumeral, ParsesUnsigned, digits_value, without_leading_plus}
@@ -46,16 +46,3 @@ number_read E G f id r reads none value = go (one_text f id) refl
     go (Some t) e =
         let at : one_of id (rows_of f) ≡ Some t = sym (one_text-rows f id) ∙ e in
         rw at (tried t r (value t e))
-
--- ------------------------------------------------------------------ the command
-
-paired : {A X Y : Type 0} (f : A → X) (g : A → Y) (o : Option A) (p : Option (X × Y)) → option_map f o ≡ option_map (λ q. q.0) p
-    → option_map g o ≡ option_map (λ q. q.1) p
-    → p ≡ option_map (λ x. (f x, g x)) o
-paired f g None None first second = refl
-paired f g None (Some p) first second = cc
-paired f g (Some x) None first second = cc
-paired f g (Some x) (Some p) first second =
-    let one : f x ≡ p.0 = cc in
-    let two : g x ≡ p.1 = cc in
-    ap₂ (λ y z. Some (y, z)) (sym one) (sym two)

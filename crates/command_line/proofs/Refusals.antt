@@ -143,8 +143,6 @@ pub empty_if_any : (found : Option Text) (name : Text) → found ≡ Some name �
 empty_if_any found name is empty None that named = let bad : Some name ≡ None = sym is ∙ that in absurd (cc)
 empty_if_any found name is empty (Some f) that named = let same : Some name ≡ Some f.now = sym is ∙ that in named (cc)
 
--- what the names of a check's files are apart from, by the names of both files of evidence
-
 by_text : (xs : List (Bor Text)) → list_all is_named xs ≡ list_all (λ (t : Text). not (length t == 0)) (map (λ f. f.now) xs)
 by_text [] = refl
 by_text (x ∷ xs) = ap (λ b. not (length x.now == 0) && b) (by_text xs)

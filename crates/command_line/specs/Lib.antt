@@ -2,7 +2,7 @@ pub mod CommandLine
 pub mod Refusals
 pub mod Example
 pub mod Command
-pub mod Inputs
+pub mod Files
 pub mod Named
 pub mod Names
 pub mod Refused

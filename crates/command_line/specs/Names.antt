@@ -1,15 +1,12 @@
 -- Which names the files of a command may have, so that nothing is destroyed by what is written.
-use Rattle.std.specs.Prelude.{◌≡◌, ◌≤◌, ◌-◌, Bool, false, ◌||◌, List, [], ◌∷◌, ◌++◌, Option, None, Some, codes, drop, length, map, option_map}
+use Rattle.std.specs.Prelude.{◌≡◌, ◌≤◌, ◌-◌, Bool, false, ◌||◌, List, [], ◌∷◌, ◌++◌, Option, None, Some, codes, drop, length, map, option_map, take}
 use Rattle.std.specs.List.{list_any}
 use Rattle.std.specs.Option.{option_map_or}
 use Rattle.std.specs.Str.{bytes_eq}
 use Rattle.std.specs.Char.{to_ascii_lowercase}
 use Rattle.clap.specs.Words.{Text}
-use Rattle.requests.specs.declared.request.Check.{Check as CheckRequest}
 use Rattle.command_line.specs.declared.request.Command.{Command}
-use Rattle.command_line.specs.declared.request.Command.TheVariants.{Check, Solve}
-use Rattle.command_line.specs.declared.request.Outputs.{Outputs}
-use Rattle.requests.specs.declared.request.Solve.{Solve as SolveRequest}
+use Rattle.command_line.specs.Files.{files_of, outputs_of}
 
 -- any number of texts may go there, as nothing is kept there that they could destroy
 abbrev pub is_device : Text → Bool
@@ -36,20 +33,15 @@ abbrev pub AreApart : (written read : List (Option Text)) → Type 0
 AreApart [] read = Unit {0}
 AreApart (file ∷ files) read = IsApart file (files ++ read) × AreApart files read
 
-abbrev pub KeepsNames : CheckRequest → Outputs → Type 0
-KeepsNames check outputs = AreApart (option_map (λ name. name.now) outputs.game ∷ option_map (λ path. even_name path.now) outputs.evidence
-    ∷ option_map (λ path. odd_name path.now) outputs.evidence ∷ option_map (λ name. name.now) outputs.witness ∷ [])
-    (Some check.system.now ∷ Some check.formula.now ∷ [])
-
-abbrev pub KeepsGame : SolveRequest → Type 0
-KeepsGame solve = AreApart (option_map (λ path. even_name path.now) solve.evidence ∷ option_map (λ path. odd_name path.now) solve.evidence ∷ [])
-    (Some solve.game.now ∷ [])
+-- what is read by a command that writes files
+abbrev pub read_beside : Command → List (Option Text)
+read_beside command = map (option_map (λ name. name.now)) (take 2 (files_of command))
 
 -- No two texts are written to files of one name, and none to a file that is read, but to devices.
 abbrev pub KeepsFiles : Command → Type 0
-KeepsFiles (Check check outputs) = KeepsNames check outputs
-KeepsFiles (Solve solve) = KeepsGame solve
-KeepsFiles _ = Unit {0}
+KeepsFiles command = let outputs = outputs_of command in AreApart (option_map (λ name. name.now) outputs.game
+    ∷ option_map (λ path. even_name path.now) outputs.evidence ∷ option_map (λ path. odd_name path.now) outputs.evidence
+    ∷ option_map (λ name. name.now) outputs.witness ∷ []) (read_beside command)
 
 -- the name ends with this, whatever letters are capital ones
 abbrev pub HasEnding : (ending : Text) → (name : Text) → Type 0

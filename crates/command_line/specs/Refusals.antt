@@ -10,7 +10,7 @@ use Rattle.command_line.specs.Command.{AreAllNamed, AreNamed, AreWithin, IsCompl
 use Rattle.command_line.specs.CommandLine.{AreFiles, AreOptions, AreOutputs, IsAskedFor, IsCommand, IsFile, IsFileIfAny, IsReportForm, IsNumberIfAny, IsNumberIn}
 use Rattle.command_table.specs.Table.{IsCommandTable}
 use Rattle.command_line.specs.CommandLine.{IsRead, answer_word}
-use Rattle.command_line.specs.Inputs.{ReadsItOnce}
+use Rattle.command_line.specs.Files.{ReadsItOnce}
 use Rattle.command_line.specs.Names.{KeepsFiles}
 
 -- ------------------------------------------------------------------ the whole line

@@ -24,7 +24,7 @@ ghost use Rattle.command_line.specs.CommandLine.{
   has_value,
   priorities_in,
 };
-ghost use Rattle.command_line.specs.Inputs.{ReadsItOnce};
+ghost use Rattle.command_line.specs.Files.{ReadsItOnce};
 ghost use Rattle.command_line.specs.Names.{KeepsFiles};
 ghost use Rattle.command_line.specs.Refused.{IfArguments, IsLineError};
 ghost use Rattle.command_line.specs.Refusals.{

@@ -1,16 +1,15 @@
 // The names of a command's files: nothing is written to a file that it reads, or that another of its texts goes to.
 
-ghost use Rattle.std.specs.Prelude.{◌≡◌, ◌↔◌, ◌⊎◌, ◌∷◌, ◌++◌, [], IfErr, IfOk, IsTrue, Some, codes, map, option_map};
+ghost use Rattle.std.specs.Prelude.{◌≡◌, ◌↔◌, ◌⊎◌, ◌∷◌, ◌++◌, [], IfErr, IfOk, IsTrue, codes, map, option_map};
 ghost use Rattle.std.specs.List.{list_any};
 ghost use Rattle.std.specs.String.{string_bytes};
 ghost use Rattle.command_line.specs.Refused.{IsLineError};
 ghost use Rattle.command_line.specs.Named.{name_of};
-ghost use Rattle.command_line.specs.Names.{AreApart, IsApart, KeepsFiles, KeepsGame, KeepsNames, HasEnding, even_name, has_name, is_device, odd_name};
+ghost use Rattle.command_line.specs.Names.{AreApart, IsApart, KeepsFiles, HasEnding, even_name, has_name, is_device, odd_name, read_beside};
 ghost use Rattle.command_line.specs.Refused.{IfArguments};
 
 use crate::request::{Command, Outputs};
 use requests::error::{ArgumentError, CheckFile, MuError};
-use requests::request::{Check, Solve};
 use std::alloc::{AllocError, Global};
 
 /// The names of both files of evidence.
@@ -56,102 +55,40 @@ pub fn keep_files(alloc: Global, command: &Command<'_>) -> Result<(), MuError>
     ensures refused { IfErr result IsLineError }
     ensures only { IfErr result (λ e. IfArguments e (KeepsFiles command.now → ⊥)) }
 {
-    match command {
-        Command::Check(check, outputs) => keep_names(alloc, check, outputs),
-        Command::Solve(solve) => keep_game(alloc, solve),
-        _ => Ok(()),
-    }
-}
-
-fn keep_names(alloc: Global, check: &Check<'_>, outputs: &Outputs<'_>) -> Result<(), MuError>
-    ensures kept { IfOk result (λ _. KeepsNames check.now outputs.now) }
-    ensures refused { IfErr result IsLineError }
-    ensures only { IfErr result (λ e. IfArguments e (KeepsNames check.now outputs.now → ⊥)) }
-{
-    let kept = match outputs.evidence {
-        None => keep_apart(check, outputs, None, None),
-        Some(path) => {
-            let Ok(names) = EvidenceNames::of(alloc, path) else {
-                return Err(MuError::Memory);
-            };
-            keep_apart(
-                check,
-                outputs,
-                Some(names.even.as_str()),
-                Some(names.odd.as_str()),
-            )
-        }
+    let outputs = command.outputs();
+    let Some(path) = outputs.evidence else {
+        return keep_apart(command, &outputs, None, None).map_err(MuError::Arguments);
     };
-    kept.map_err(MuError::Arguments)
+    let Ok(names) = EvidenceNames::of(alloc, path) else {
+        return Err(MuError::Memory);
+    };
+    let (even, odd) = (names.even.as_str(), names.odd.as_str());
+    keep_apart(command, &outputs, Some(even), Some(odd)).map_err(MuError::Arguments)
 }
 
 fn keep_apart(
-    check: &Check<'_>,
+    command: &Command<'_>,
     outputs: &Outputs<'_>,
     even: Option<&str>,
     odd: Option<&str>,
 ) -> Result<(), ArgumentError>
     ensures kept { IfOk result (λ _. AreApart (option_map (λ name. name.now) outputs.now.game ∷ option_map (λ name. name.now) even.entry
-        ∷ option_map (λ name. name.now) odd.entry ∷ option_map (λ name. name.now) outputs.now.witness ∷ [])
-        (Some check.now.system.now ∷ Some check.now.formula.now ∷ [])) }
+        ∷ option_map (λ name. name.now) odd.entry ∷ option_map (λ name. name.now) outputs.now.witness ∷ []) (read_beside command.now)) }
     ensures only { IfErr result (λ _. AreApart (option_map (λ name. name.now) outputs.now.game ∷ option_map (λ name. name.now) even.entry
-        ∷ option_map (λ name. name.now) odd.entry ∷ option_map (λ name. name.now) outputs.now.witness ∷ [])
-        (Some check.now.system.now ∷ Some check.now.formula.now ∷ []) → ⊥) }
+        ∷ option_map (λ name. name.now) odd.entry ∷ option_map (λ name. name.now) outputs.now.witness ∷ []) (read_beside command.now) → ⊥) }
 {
     let file = |file, name| Named { file, name };
-    let system = file(CheckFile::System, Some(check.system));
-    let formula = file(CheckFile::Formula, Some(check.formula));
+    let [main, formula, ..] = command.files();
+    let main = file(command.main_file(), main);
+    let formula = file(CheckFile::Formula, formula);
     let game = file(CheckFile::Game, outputs.game);
     let even = file(CheckFile::EvenEvidence, even);
     let odd = file(CheckFile::OddEvidence, odd);
     let witness = file(CheckFile::Witness, outputs.witness);
-    apart(game, &[even, odd, witness, system, formula])?;
-    apart(even, &[odd, witness, system, formula])?;
-    apart(odd, &[witness, system, formula])?;
-    apart(witness, &[system, formula])
-}
-
-fn keep_game(alloc: Global, solve: &Solve<'_>) -> Result<(), MuError>
-    ensures kept { IfOk result (λ _. KeepsGame solve.now) }
-    ensures refused { IfErr result IsLineError }
-    ensures only { IfErr result (λ e. IfArguments e (KeepsGame solve.now → ⊥)) }
-{
-    let Some(path) = solve.evidence else {
-        return Ok(());
-    };
-    let Ok(names) = EvidenceNames::of(alloc, path) else {
-        return Err(MuError::Memory);
-    };
-    keep_evidence(alloc, solve.game, names.even.as_str(), names.odd.as_str())
-}
-
-fn keep_evidence(alloc: Global, game: &str, even: &str, odd: &str) -> Result<(), MuError>
-    ensures kept { IfOk result (λ _. AreApart (Some even.now ∷ Some odd.now ∷ []) (Some game.now ∷ [])) }
-    ensures refused { IfErr result IsLineError }
-    ensures only { IfErr result (λ e. IfArguments e (AreApart (Some even.now ∷ Some odd.now ∷ []) (Some game.now ∷ []) → ⊥)) }
-{
-    let file = |file, name| Named { file, name };
-    let game = file(CheckFile::Game, Some(game));
-    let even = file(CheckFile::EvenEvidence, Some(even));
-    let odd = file(CheckFile::OddEvidence, Some(odd));
-    // Evidence of one player never has the name of the other's: what it may have is that of the game.
-    if apart(even, &[odd, game]).is_err() {
-        return Err(over_game(alloc, CheckFile::EvenEvidence));
-    }
-    if apart(odd, &[game]).is_err() {
-        return Err(over_game(alloc, CheckFile::OddEvidence));
-    }
-    Ok(())
-}
-
-/// The refusal of a file that is written and is that of the game that is read.
-pub fn over_game(alloc: Global, file: CheckFile) -> MuError
-    ensures { IsLineError result }
-{
-    match format!(in alloc; "error: {file} and GAME are the same file\n") {
-        Ok(text) => MuError::Arguments(ArgumentError::Refused(text)),
-        Err(AllocError) => MuError::Memory,
-    }
+    apart(game, &[even, odd, witness, main, formula])?;
+    apart(even, &[odd, witness, main, formula])?;
+    apart(odd, &[witness, main, formula])?;
+    apart(witness, &[main, formula])
 }
 
 /// Refuses a file that has another one's name.

@@ -1,8 +1,10 @@
 // What the program can be asked to do. The files are named as on the command line.
 
-ghost use Rattle.std.specs.Prelude.{◌↔◌, IsTrue};
+ghost use Rattle.std.specs.Prelude.{◌≡◌, ◌↔◌, IsTrue};
 ghost use Rattle.command_line.specs.Command.{IsReportAlone};
+ghost use Rattle.command_line.specs.Files.{files_of, formulas_of, outputs_of};
 
+use requests::error::CheckFile;
 use requests::request::{Check, Normalize, Replay, ReportForm, Solve, Table, Verify, Why};
 
 /// What the program is asked to do.
@@ -22,6 +24,60 @@ pub enum Command<'a> {
     /// The help of a command, or of the program.
     Help(Option<&'a str>),
     Version,
+}
+
+impl<'a> Command<'a> {
+    /// The files that it reads: the system or the game, the formula, the evidence or the schedule, and the other evidence. A table's formulas aren't
+    /// among them.
+    pub fn files(&self) -> [Option<&'a str>; 4]
+        ensures { result ≡ files_of self.now }
+    {
+        match self {
+            Command::Check(check, _) => [Some(check.system), Some(check.formula), None, None],
+            Command::Why(why) => [Some(why.system), Some(why.formula), None, None],
+            Command::Table(table) => [Some(table.system), None, None, None],
+            Command::Labels(labels) => [Some(labels.system), labels.formula, None, None],
+            Command::Normal(form) => [None, Some(form.formula), None, None],
+            Command::Solve(solve) => [Some(solve.game), None, None, None],
+            Command::Verify(verify) => {
+                [Some(verify.game), None, Some(verify.evidence), verify.other]
+            }
+            Command::Replay(replay) => {
+                let (formula, schedule) = (Some(replay.formula), Some(replay.schedule));
+                [Some(replay.system), formula, schedule, None]
+            }
+            Command::Explain(_) | Command::Help(_) | Command::Version => [None; 4],
+        }
+    }
+
+    /// A table's formulas.
+    pub fn formulas(&self) -> &[&'a str]
+        ensures { result.now ≡ formulas_of self.now }
+    {
+        match self {
+            Command::Table(table) => table.formulas.as_slice(),
+            _ => &[],
+        }
+    }
+
+    /// Where its texts go.
+    pub fn outputs(&self) -> Outputs<'a>
+        ensures { result ≡ outputs_of self.now }
+    {
+        match self {
+            Command::Check(_, outputs) => *outputs,
+            Command::Solve(solve) => Outputs::of(solve.evidence, solve.stats),
+            _ => Outputs::of(None, false),
+        }
+    }
+
+    /// Which file the first of those is that it reads beside files that it writes.
+    pub fn main_file(&self) -> CheckFile {
+        match self {
+            Command::Solve(_) => CheckFile::SolvedGame,
+            _ => CheckFile::System,
+        }
+    }
 }
 
 /// The labels of a system, and which of them a formula takes.
@@ -46,7 +102,20 @@ pub struct Outputs<'a> {
     pub stats: bool,
 }
 
-impl Outputs<'_> {
+impl<'a> Outputs<'a> {
+    /// Evidence, if it is asked for, and a whole report.
+    fn of(evidence: Option<&'a str>, stats: bool) -> Outputs<'a>
+        ensures { result ≡ record { game = None; evidence = evidence.entry; witness = None; report = ReportForm.Whole; stats = stats } }
+    {
+        Outputs {
+            game: None,
+            evidence,
+            witness: None,
+            report: ReportForm::Whole,
+            stats,
+        }
+    }
+
     /// Whether none of the files is asked for.
     pub fn is_report_alone(&self) -> bool
         ensures { IsTrue result ↔ IsReportAlone self.now }

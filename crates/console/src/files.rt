@@ -2,46 +2,38 @@
 
 use crate::output::Target;
 use crate::refusal::{Cause, Refusal};
-use crate::same::refused;
+use crate::same::{keep_apart, refused};
 use crate::told::FileName;
 use command_line::names::{EvidenceNames, is_drawing};
+use command_line::request::{Command, Outputs};
 use requests::error::MuError;
-use requests::request::{ReportForm, Wanted, WitnessForm};
+use requests::request::{Wanted, WitnessForm};
 use requests::writers::Writers;
 use std::cell::OnceCell;
 use std::io::{Error, ErrorKind, Write};
 use std::{fs, io};
 
 /// The names of both files of evidence, where a path is given.
-///
-/// # Errors
-/// U1 where something has the path's name that is neither a file nor a folder, as `/dev/full`; U4.
-pub fn evidence_names(
-    rt: &HostRuntime,
-    path: Option<&str>,
-) -> Result<Option<EvidenceNames>, Refusal> {
+fn evidence_names(rt: &HostRuntime, path: Option<&str>) -> Result<Option<EvidenceNames>, MuError> {
     let Some(path) = path else {
         return Ok(None);
     };
     if fs::metadata(rt, path).is_ok_and(|found| !found.is_file() && !found.is_dir()) {
         let path = FileName(path);
-        return Err(Refusal::from(refused(format!(in rt.alloc();
+        return Err(refused(format!(in rt.alloc();
             "error: {path} of --evidence is no file, and {path}.even and {path}.odd would be made beside it\n"
-        ))));
+        )));
     }
-    match EvidenceNames::of(rt.alloc(), path) {
-        Ok(names) => Ok(Some(names)),
-        Err(_) => Err(Refusal::from(MuError::Memory)),
-    }
+    Ok(Some(EvidenceNames::of(rt.alloc(), path)?))
 }
 
 /// The files that a command writes beside its report. Each is made when its own first byte is written.
 #[derive(Drop)]
 pub struct Files<'a> {
     rt: &'a HostRuntime,
-    game_name: Option<&'a str>,
+    /// Their names, but those of evidence, and the form of the report.
+    pub outputs: Outputs<'a>,
     evidence_names: Option<EvidenceNames>,
-    witness_name: Option<&'a str>,
     fault: OnceCell<FileFault>,
 }
 
@@ -62,33 +54,33 @@ pub struct FileWriter<'a> {
 }
 
 impl<'a> Files<'a> {
-    /// The files of these names. Nothing is made yet.
-    pub fn new(
-        rt: &'a HostRuntime,
-        game_name: Option<&'a str>,
-        evidence_names: Option<EvidenceNames>,
-        witness_name: Option<&'a str>,
-    ) -> Self {
-        Files {
+    /// Those of a command. Nothing is made yet, and none is a file that is read or written otherwise.
+    ///
+    /// # Errors
+    /// U1 where one is, or where something has the path's name of evidence that is neither a file nor a folder, as `/dev/full`; U4.
+    pub fn of(rt: &'a HostRuntime, command: &Command<'a>) -> Result<Files<'a>, MuError> {
+        let outputs = command.outputs();
+        let evidence_names = evidence_names(rt, outputs.evidence)?;
+        keep_apart(rt, command, evidence_names.as_ref())?;
+        Ok(Files {
             rt,
-            game_name,
+            outputs,
             evidence_names,
-            witness_name,
             fault: OnceCell::new(),
-        }
+        })
     }
 
-    /// Which texts are written to them, before a report in this form: a drawing of the witness where its file's name asks for one.
-    pub fn wanted(&self, report: ReportForm) -> Wanted {
+    /// Which texts are written to them, and the report: a drawing of the witness where its file's name asks for one.
+    pub fn wanted(&self) -> Wanted {
         Wanted {
-            game: self.game_name.is_some(),
+            game: self.outputs.game.is_some(),
             evidence: self.evidence_names.is_some(),
-            witness: match self.witness_name {
+            witness: match self.outputs.witness {
                 Some(name) if is_drawing(name) => Some(WitnessForm::Drawing),
                 Some(_) => Some(WitnessForm::System),
                 None => None,
             },
-            report,
+            report: self.outputs.report,
         }
     }
 
@@ -110,10 +102,10 @@ impl<'a> Files<'a> {
         report: W,
     ) -> Writers<FileWriter<'a>, FileWriter<'a>, FileWriter<'a>, FileWriter<'a>, W> {
         Writers {
-            game: self.writer(self.game_name),
+            game: self.writer(self.outputs.game),
             even: self.even(),
             odd: self.odd(),
-            witness: self.writer(self.witness_name),
+            witness: self.writer(self.outputs.witness),
             report,
         }
     }

@@ -8,7 +8,7 @@ pub mod line;
 mod notes;
 pub mod output;
 pub mod refusal;
-pub mod same;
+mod same;
 mod sight;
 mod size;
 pub mod solve;

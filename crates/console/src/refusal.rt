@@ -5,7 +5,6 @@ use crate::sight::{Finding, NOTHING_FOUND, find};
 use crate::told::{FileName, say};
 use command_line::codes::code_entry;
 use command_line::inputs::is_standard_input;
-use command_line::request::Command;
 use requests::error::{ArgumentError, MuError};
 use std::fs::File;
 use std::io::{ErrorKind, Read};
@@ -60,36 +59,12 @@ impl From<MuError> for Refusal {
     }
 }
 
-/// The files that a command reads: the system or the game, the formula, the evidence or the schedule, and the other evidence. A table's formulas aren't
-/// among them.
-pub type Sources<'a> = [Option<&'a str>; 4];
-
-/// Those of a command that reads none.
-pub const NO_SOURCES: Sources<'static> = [None, None, None, None];
-
-/// Those of a command.
-pub fn sources_of<'a>(command: &Command<'a>) -> Sources<'a> {
-    match command {
-        Command::Check(check, _) => [Some(check.system), Some(check.formula), None, None],
-        Command::Why(why) => [Some(why.system), Some(why.formula), None, None],
-        Command::Table(table) => [Some(table.system), None, None, None],
-        Command::Labels(labels) => [Some(labels.system), labels.formula, None, None],
-        Command::Normal(normal) => [None, Some(normal.formula), None, None],
-        Command::Solve(solve) => [Some(solve.game), None, None, None],
-        Command::Verify(verify) => [Some(verify.game), None, Some(verify.evidence), verify.other],
-        Command::Replay(replay) => [
-            Some(replay.system),
-            Some(replay.formula),
-            Some(replay.schedule),
-            None,
-        ],
-        Command::Explain(_) | Command::Help(_) | Command::Version => NO_SOURCES,
-    }
-}
-
 /// The file that a refusal speaks of, or both where it is one of two.
-fn refused<'a>(sources: &Sources<'a>, error: &MuError) -> (Option<&'a str>, Option<&'a str>) {
-    let [main, formula, evidence, other] = *sources;
+fn refused<'a>(
+    files: &[Option<&'a str>; 4],
+    error: &MuError,
+) -> (Option<&'a str>, Option<&'a str>) {
+    let [main, formula, evidence, other] = *files;
     match error {
         MuError::System(_) | MuError::Game(_) => (main, None),
         MuError::Formula(_) | MuError::NoLabel { .. } => (formula, None),
@@ -101,8 +76,8 @@ fn refused<'a>(sources: &Sources<'a>, error: &MuError) -> (Option<&'a str>, Opti
 }
 
 /// Tells a refusal: a line with the code and the place; which file it speaks of, and the line of its text; what is wrong, and what is to be done. After
-/// wrong arguments, what is wrong with them, or the help.
-pub fn tell(rt: &HostRuntime, sources: &Sources<'_>, refusal: &Refusal) -> io::Result<()> {
+/// wrong arguments, what is wrong with them, or the help. The files are those that the command reads.
+pub fn tell(rt: &HostRuntime, files: &[Option<&str>; 4], refusal: &Refusal) -> io::Result<()> {
     let Refusal { error, cause } = refusal;
     match error {
         MuError::Arguments(ArgumentError::Refused(text)) => tell_wrong_words(rt, text.as_str()),
@@ -110,7 +85,7 @@ pub fn tell(rt: &HostRuntime, sources: &Sources<'_>, refusal: &Refusal) -> io::R
         _ => {
             eprintln!(rt; "mucheck: {error}")?;
             match error.to_string(rt.alloc()) {
-                Ok(text) => tell_rest(rt, refused(sources, error), text.as_str(), cause.as_ref()),
+                Ok(text) => tell_rest(rt, refused(files, error), text.as_str(), cause.as_ref()),
                 // Where there is no memory, the line with the code stands alone.
                 Err(_) => Ok(()),
             }

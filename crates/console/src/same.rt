@@ -1,12 +1,10 @@
 // Whether two names are those of one file: links, and names with other folders in front.
 
-use crate::refusal::sources_of;
 use crate::told::FileName;
-use command_line::inputs::is_standard_input;
-use command_line::names::{EvidenceNames, is_device, over_game};
-use command_line::request::{Command, Outputs};
+use command_line::names::{EvidenceNames, is_device};
+use command_line::request::Command;
 use requests::error::{ArgumentError, CheckFile, MuError};
-use requests::request::{Check, ReportForm, Solve};
+use requests::request::ReportForm;
 use std::alloc::AllocError;
 use std::fs;
 use std::io::ErrorKind;
@@ -31,33 +29,43 @@ struct NamedFile<'a> {
     is_own: bool,
 }
 
-/// Refuses a check that would write a picture, or to a file twice, or to one that it reads, whatever their names are. What is no file, as a pipe or
+/// Refuses a command that would write a picture, or to a file twice, or to one that it reads, whatever their names are. What is no file, as a pipe or
 /// a terminal, has nothing that could be destroyed.
 ///
 /// # Errors
-/// U1, with both files; U4.
-pub fn keep_apart<'a>(
+/// U1, with both files, or with the one that the answer would go to; U4.
+pub fn keep_apart(
     rt: &HostRuntime,
-    check: &Check<'a>,
-    outputs: &Outputs<'a>,
-    evidence: Option<&'a EvidenceNames>,
+    command: &Command<'_>,
+    evidence: Option<&EvidenceNames>,
 ) -> Result<(), MuError> {
+    if !matches!(command, Command::Check(_, _) | Command::Solve(_)) {
+        return keep_answer_apart(rt, command);
+    }
+    let outputs = command.outputs();
     if outputs.witness.is_some_and(is_picture) {
         return Err(refused(String::from_str(rt.alloc(), NO_PICTURE)));
     }
-    let even = evidence.map(|names| names.even.as_str());
-    let odd = evidence.map(|names| names.odd.as_str());
+    let [main, formula, ..] = command.files();
     all_apart(
         &[
             place_of(rt, CheckFile::Game, outputs.game),
-            place_of(rt, CheckFile::EvenEvidence, even),
-            place_of(rt, CheckFile::OddEvidence, odd),
+            place_of(
+                rt,
+                CheckFile::EvenEvidence,
+                evidence.map(|names| names.even.as_str()),
+            ),
+            place_of(
+                rt,
+                CheckFile::OddEvidence,
+                evidence.map(|names| names.odd.as_str()),
+            ),
             place_of(rt, CheckFile::Witness, outputs.witness),
             reported(rt, outputs.report),
         ],
         &[
-            read(rt, CheckFile::System, check.system),
-            read(rt, CheckFile::Formula, check.formula),
+            read(rt, command.main_file(), main),
+            read(rt, CheckFile::Formula, formula),
         ],
     )
     .map_err(MuError::Arguments)
@@ -72,47 +80,11 @@ fn is_picture(name: &str) -> bool {
     })
 }
 
-/// Refuses to solve a game where the same would be so.
-///
-/// # Errors
-/// U1, with both files; U4.
-pub fn keep_game_apart<'a>(
-    rt: &HostRuntime,
-    solve: &Solve<'a>,
-    evidence: Option<&'a EvidenceNames>,
-) -> Result<(), MuError> {
-    let even = evidence.map(|names| names.even.as_str());
-    let odd = evidence.map(|names| names.odd.as_str());
-    let places = [
-        place_of(rt, CheckFile::EvenEvidence, even),
-        place_of(rt, CheckFile::OddEvidence, odd),
-        reported(rt, ReportForm::Whole),
-    ];
-    let game = read(rt, CheckFile::Game, solve.game);
-    for place in &places {
-        if apart_from(place, &[game]).is_err() {
-            return Err(over_game(rt.alloc(), place.file));
-        }
-    }
-    all_apart(&places, &[]).map_err(MuError::Arguments)
-}
-
-/// Refuses a command whose answer would go to a file that it reads, whatever its name is. `check` and `solve`, which write to other files too, see to
-/// that themselves.
-///
-/// # Errors
-/// U1, with that file; U4.
-pub fn keep_answer_apart(rt: &HostRuntime, command: &Command<'_>) -> Result<(), MuError> {
-    if matches!(command, Command::Check(_, _) | Command::Solve(_)) {
-        return Ok(());
-    }
-    for name in sources_of(command).into_iter().flatten() {
+/// Refuses a command whose answer would go to a file that it reads.
+fn keep_answer_apart(rt: &HostRuntime, command: &Command<'_>) -> Result<(), MuError> {
+    let files = command.files();
+    for name in files.iter().flatten().chain(command.formulas()) {
         keep_unwritten(rt, name)?;
-    }
-    if let Command::Table(table) = command {
-        for name in &table.formulas {
-            keep_unwritten(rt, name)?;
-        }
     }
     Ok(())
 }
@@ -120,7 +92,7 @@ pub fn keep_answer_apart(rt: &HostRuntime, command: &Command<'_>) -> Result<(), 
 /// Refuses to read a file where the answer would go to it.
 fn keep_unwritten(rt: &HostRuntime, name: &str) -> Result<(), MuError> {
     let report = reported(rt, ReportForm::Whole);
-    if apart_from(&report, &[read(rt, CheckFile::Formula, name)]).is_ok() {
+    if apart_from(&report, &[read(rt, CheckFile::Formula, Some(name))]).is_ok() {
         return Ok(());
     }
     Err(refused(format!(in rt.alloc();
@@ -156,12 +128,14 @@ fn reported<'a>(rt: &HostRuntime, report: ReportForm) -> NamedFile<'a> {
 }
 
 /// The place of what is read under this name.
-fn read<'a>(rt: &HostRuntime, file: CheckFile, name: &'a str) -> NamedFile<'a> {
-    let is_input = is_standard_input(name);
-    let name = if is_input { "/dev/stdin" } else { name };
+fn read<'a>(rt: &HostRuntime, file: CheckFile, name: Option<&'a str>) -> NamedFile<'a> {
+    let name = match name {
+        Some("-") => Some("/dev/stdin"),
+        name => name,
+    };
     NamedFile {
         is_own: false,
-        ..place_of(rt, file, Some(name))
+        ..place_of(rt, file, name)
     }
 }
 

@@ -12,11 +12,11 @@ use crate::table::run_table;
 use command_line::information::{explanation, help_text, version_text};
 use command_line::line::command;
 use command_line::request::Command;
+use console::files::Files;
 use console::input::take_descriptors;
 use console::line::ProgressLine;
 use console::output::Output;
-use console::refusal::{NO_SOURCES, Refusal, Sources, sources_of, tell};
-use console::same::keep_answer_apart;
+use console::refusal::{Refusal, tell};
 use console::solve::run_solve;
 use console::stats::Stats;
 use console::texts::{run_labels, run_normal, run_replay, run_verify};
@@ -34,7 +34,7 @@ fn main(rt: HostRuntime) -> ExitCode {
     let taken = take_descriptors(&rt);
     let status = match words(&rt) {
         Ok(words) => run(&rt, &rt, &words),
-        Err(error) => ended(&rt, &NO_SOURCES, Err(Refusal::from(error))),
+        Err(error) => ended(&rt, &[None; 4], Err(Refusal::from(error))),
     };
     drop(taken);
     ExitCode::from(status)
@@ -47,21 +47,18 @@ fn run<T: Threads + Wait + Clock + Clone + Copy + Drop + Send + Sync + 'static>(
     words: &[String],
 ) -> u8 {
     match command(rt.alloc(), words) {
-        Ok(command) => {
-            let sources = sources_of(&command);
-            ended(rt, &sources, run_command(rt, threads, &command))
-        }
-        Err(error) => ended(rt, &NO_SOURCES, Err(Refusal::from(error))),
+        Ok(command) => ended(rt, &command.files(), run_command(rt, threads, &command)),
+        Err(error) => ended(rt, &[None; 4], Err(Refusal::from(error))),
     }
 }
 
-/// The status. A refusal is told.
-fn ended(rt: &HostRuntime, sources: &Sources<'_>, found: Result<u8, Refusal>) -> u8 {
+/// The status. A refusal is told, with the files that the command reads.
+fn ended(rt: &HostRuntime, files: &[Option<&str>; 4], found: Result<u8, Refusal>) -> u8 {
     match found {
         Ok(status) => status,
         Err(refusal) => {
             // Where standard error fails too, the status alone tells.
-            let _ = tell(rt, sources, &refusal);
+            let _ = tell(rt, files, &refusal);
             error_status(&refusal.into_error())
         }
     }
@@ -73,24 +70,21 @@ fn run_command<T: Threads + Wait + Clock + Clone + Copy + Drop + Send + Sync + '
     threads: &T,
     command: &Command<'_>,
 ) -> Result<u8, Refusal> {
-    keep_answer_apart(rt, command)?;
+    let files = Files::of(rt, command)?;
     let answer = match command {
-        Command::Check(request, outputs) => run_check(rt, threads, request, outputs),
+        Command::Check(request, _) => run_check(rt, threads, request, &files),
         Command::Why(request) => run_why(rt, threads, request),
         Command::Table(request) => return run_table(rt, threads, request),
         Command::Labels(request) => run_labels(rt, threads, request),
         Command::Normal(request) => run_normal(rt, threads, request),
-        Command::Solve(request) => run_solve(rt, threads, request),
+        Command::Solve(request) => run_solve(rt, threads, request, &files),
         Command::Verify(request) => run_verify(rt, threads, request),
         Command::Replay(request) => run_replay(rt, threads, request),
         Command::Explain(code) => show(rt, threads, explanation(rt.alloc(), code)),
         Command::Help(command) => show(rt, threads, help_text(rt.alloc(), *command)),
         Command::Version => show(rt, threads, version_text(rt.alloc())),
     };
-    match answer {
-        Ok(answer) => Ok(status_of_answer(answer)),
-        Err(refusal) => Err(refusal),
-    }
+    Ok(status_of_answer(files.conclude(answer)?))
 }
 
 /// Writes a text that was asked for.

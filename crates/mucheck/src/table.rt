@@ -4,7 +4,7 @@ use console::fault::{note_expectation, tell_fault};
 use console::input::{CountedInput, Input, open};
 use console::line::ProgressLine;
 use console::output::Output;
-use console::refusal::{NO_SOURCES, Refusal, tell};
+use console::refusal::{Refusal, tell};
 use console::stats::Stats;
 use console::system::read_system;
 use console::told::FileName;
@@ -18,7 +18,7 @@ use std::alloc::AllocError;
 use std::sync::Wait;
 use std::thread::Threads;
 use std::time::Clock;
-use table_lines::table::table_line_seen;
+use table_lines::table::table_line;
 
 /// The status of a line whose formula is at fault.
 const AT_FAULT: u8 = 2;
@@ -90,7 +90,7 @@ fn write_unopened<T: Threads + Wait + Clock + Clone + Copy + Drop + Send + Sync 
     drop(line);
     written?;
     // Where standard error fails too, the line tells.
-    let _ = tell(rt, &NO_SOURCES, &refusal);
+    let _ = tell(rt, &[None; 4], &refusal);
     Ok(error_status(&refusal.into_error()))
 }
 
@@ -116,7 +116,7 @@ fn write_line<T: Threads + Wait + Clock + Clone + Copy + Drop + Send + Sync + 's
     let ticker = line.start();
     line.sees(Stage::ReadingFormula);
     let mut out = Output::new(*rt, &line);
-    let status = table_line_seen(
+    let status = table_line(
         threads,
         rt.alloc(),
         system,

@@ -1,8 +1,8 @@
 -- A formula's text of which no more is read than shows that it is too long.
-use Rattle.std.specs.Prelude.{IfSome, Option, option_map}
+use Rattle.std.specs.Prelude.{IfOk, IfSome, Option, Result, option_map}
 use Rattle.std.specs.Io.Take.{take_limit, take_inner, take_remaining}
 use Rattle.std.specs.declared.io.traits.Take.{Take}
-use Rattle.std.proofs.Common.{◌≡◌, ◌<◌, ℕ, List, [], ◌++◌, length, take, Some, None, inl, inr, sym, ap, ◌∙◌, subst, arith}
+use Rattle.std.proofs.Common.{◌≡◌, ◌<◌, ℕ, List, [], ◌++◌, length, take, Some, None, Ok, Err, inl, inr, sym, ap, ◌∙◌, subst, arith}
 use Rattle.std.proofs.lemmas.List.{take_all, length-take}
 use Rattle.calculus.specs.Tree.{Formula}
 use Rattle.formula.specs.Spells.{Spells, SpellsWithin}
@@ -59,13 +59,13 @@ refused_of all front text (Fault fault offset) h e f = fault_front 1048577 all f
 refused_of all front text Memory h e f = tt
 
 -- What spells a formula is its front.
-pub whole_spelled : (known : Option (List ℕ)) (front : List ℕ) (f : Formula) → IfSome known (λ all. front ≡ take 1048577 all)
-    → IfSome known (λ all. IsFormulaOf all f) → IfSome known (λ all. front ≡ all)
-whole_spelled None front f h is = tt
-whole_spelled (Some all) front f h is = h ∙ take_all 1048577 all (omega (arith, is.spelled.short))
+pub whole_spelled : (front text : List ℕ) (f : Formula) → front ≡ take 1048577 text → IsFormulaOf text f → front ≡ text
+whole_spelled front text f h is = h ∙ take_all 1048577 text (omega (arith, is.spelled.short))
 
--- What each text with this front spells is what the reader's text spells.
-pub spelled_of_front : (known : Option (List ℕ)) (front read : List ℕ) (f : Formula) → IfSome known (λ all. front ≡ take 1048577 all) → read ≡ front
-    → ((text : List ℕ) → read ≡ take 1048577 text → IsFormulaOf text f) → IfSome known (λ all. IsFormulaOf all f)
-spelled_of_front None front read f h e k = tt
-spelled_of_front (Some text) front read f h e k = k text (e ∙ h)
+-- What is read of each text with this front is read of the reader's text.
+pub spelled_of_front : {T E : Type 0} → (P : T → List ℕ → Type 0) (known : Option (List ℕ)) (front read : List ℕ) (r : Result T E)
+    → IfSome known (λ all. front ≡ take 1048577 all) → read ≡ front → ((text : List ℕ) → read ≡ take 1048577 text → IfOk r (λ f. P f text))
+    → IfOk r (λ f. IfSome known (P f))
+spelled_of_front P None front read (Ok f) h e k = tt
+spelled_of_front P None front read (Err x) h e k = tt
+spelled_of_front P (Some text) front read r h e k = k text (e ∙ h)

@@ -6,47 +6,23 @@ use Rattle.systems.specs.System.{System}
 use Rattle.lts.specs.Aut.{IsAut}
 use Rattle.calculus.specs.Tree.{Formula}
 use Rattle.requests.specs.declared.error.MuError.{MuError}
-use Rattle.requests.specs.declared.error.MuError.TheVariants as error
-use Rattle.requests.specs.Check.{Way, AreSpelled, SpellsSystem, RefusesCheck}
-use Rattle.requests.specs.Writers.{Lent, AreKept}
-use Rattle.requests.specs.Texts.{IsFormulaOf, IsReadRefusal}
+use Rattle.requests.specs.Check.{AreSpelled}
+use Rattle.requests.specs.Texts.{IsFormulaOf}
 
 -- what is said of known bytes, at them
 pub at_known : (P : List ℕ → Type 0) (known : Option (List ℕ)) (text : List ℕ) → known ≡ Some text → IfSome known P → P text
 at_known P known text e h = subst (λ o. IfSome o P) e h
 
--- what both readers say
-pub spelled_of : (first second : List ℕ) (known_first known_second : Option (List ℕ)) (l : System) (f : Formula) → known_first ≡ Some first
-    → known_second ≡ Some second
-    → IfSome known_first (λ text. IsAut text l) → IfSome known_first (λ text. (other : System) → IsAut text other → other ≡ l)
-    → IfSome known_second (λ text. IsFormulaOf text f)
-    → AreSpelled first second l f
-spelled_of first second known_first known_second l f e d system only_system formula = record {
+-- what both texts spell
+pub spelled_of : (first second : List ℕ) (known : Option (List ℕ)) (l : System) (f : Formula) → known ≡ Some first → IfSome known (λ text. IsAut text l)
+    → IfSome known (λ text. (other : System) → IsAut text other → other ≡ l) → IsFormulaOf second f → AreSpelled first second l f
+spelled_of first second known l f e system only formula = record {
   system = record {
-    spelled = at_known (λ text. IsAut text l) known_first first e system;
-    only = at_known (λ text. (other : System) → IsAut text other → other ≡ l) known_first first e only_system;
+    spelled = at_known (λ text. IsAut text l) known first e system;
+    only = at_known (λ text. (other : System) → IsAut text other → other ≡ l) known first e only;
   };
-  formula = at_known (λ text. IsFormulaOf text f) known_second second d formula;
+  formula = formula;
 }
-
--- The refusal of a formula's text comes where the first text spells a system.
-pub unread_of : (way : Way) (first second : List ℕ) (writers : List Lent) (e : MuError) → SpellsSystem first → IsReadRefusal second e → AreKept writers
-    → RefusesCheck way first second writers e
-unread_of way first second writers (error.Formula e) spelled h kept = (spelled, h, kept)
-unread_of way first second writers error.Read spelled h kept = (spelled, kept)
-unread_of way first second writers error.Memory spelled h kept = (spelled, kept)
-unread_of way first second writers (error.Arguments e) spelled h kept = absurd h
-unread_of way first second writers error.File spelled h kept = absurd h
-unread_of way first second writers (error.System e) spelled h kept = absurd h
-unread_of way first second writers (error.Normal e) spelled h kept = absurd h
-unread_of way first second writers (error.Build e) spelled h kept = absurd h
-unread_of way first second writers (error.Game e) spelled h kept = absurd h
-unread_of way first second writers (error.Evidence e) spelled h kept = absurd h
-unread_of way first second writers (error.Schedule e) spelled h kept = absurd h
-unread_of way first second writers (error.NoLabel offset) spelled h kept = absurd h
-unread_of way first second writers (error.Table e) spelled h kept = absurd h
-unread_of way first second writers (error.Solve e) spelled h kept = absurd h
-unread_of way first second writers (error.Write e) spelled h kept = absurd h
 
 -- An answer where errors were turned into others was one before.
 pub was_ok : {T E : Type 0} → (r : Result T E) (x : T) → MatchResult r (λ y. ◌≡◌ {A = Result T MuError} (Ok x) (Ok y)) (λ e. ⊥) → r ≡ Ok x

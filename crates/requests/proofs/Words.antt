@@ -1,64 +1,56 @@
 -- What was read where each word of the formula has to be on a transition.
-use Rattle.std.proofs.Common.{◌≡◌, ℕ, List, Bool, false, Some, None, Ok, Err, inl, inr, refl, subst, sym, ◌∙◌, true≢false}
-use Rattle.std.specs.Prelude.{IfOk, IfErr, IsTrue, MatchResult, Result}
-use Rattle.calculus.specs.Closed.{closed_formula}
+use Rattle.std.proofs.Common.{◌≡◌, ◌⊎◌, ℕ, List, Bool, false, Some, None, inl, inr, refl, subst, sym, true≢false}
+use Rattle.std.specs.Prelude.{IsTrue}
 use Rattle.formula.specs.Absent.{IsFirstAbsent}
 use Rattle.requests.specs.declared.error.MuError.{MuError}
 use Rattle.requests.specs.declared.error.MuError.TheVariants as error
-use Rattle.requests.specs.declared.texts.Texts.{Texts}
-use Rattle.requests.specs.Check.{Way, AreSpelled}
+use Rattle.systems.specs.System.{System}
+use Rattle.calculus.specs.Tree.{Formula}
+use Rattle.requests.specs.Check.{Way, BySets, AreSpelled, IsErrorOf, RefusesCheck, SpellsSystem}
+use Rattle.requests.specs.Known.{AreKnown}
 use Rattle.requests.specs.Strict.{HasRefusedBy, IsLookRefusal, KnowsWords}
+use Rattle.requests.specs.Texts.{IsReadFault, IsReadRefusal}
 use Rattle.requests.specs.Writers.{Lent, AreKept}
 
--- a look at the words of what was read
-abbrev pub Looked : Texts → List ℕ → Result Texts MuError → Type 0
-Looked was text r = let l = was.system.system in MatchResult r (λ texts. (texts ≡ was) × IsFirstAbsent l text None) (IsLookRefusal l text)
+-- what a look at the words of what was read finds
+pub known_of : (first second : List ℕ) (strict : Bool) (l : System) (f : Formula) (text : List ℕ) → AreSpelled first second l f → text ≡ second
+    → AreKnown strict l text → IsTrue strict → KnowsWords first second
+known_of first second strict l f text spelled whole known asked =
+    record { l = l; system = spelled.system.spelled; absent = subst (λ t. IsFirstAbsent l t None) whole (known asked) }
 
-pub spelled_looked : (first second : List ℕ) (was : Texts) (text : List ℕ) (r : Result Texts MuError)
-    → AreSpelled first second was.system.system (closed_formula was.formula) → Looked was text r
-    → IfOk r (λ texts. AreSpelled first second texts.system.system (closed_formula texts.formula))
-spelled_looked first second was text (Ok texts) spelled h =
-    subst (λ (t : Texts). AreSpelled first second t.system.system (closed_formula t.formula)) (sym h.0) spelled
-spelled_looked first second was text (Err e) spelled h = tt
+-- and what it refuses
+pub refused_word : (first second : List ℕ) (strict : Bool) (way : Way) (writers : List Lent) (l : System) (f : Formula) (text : List ℕ) (e : MuError)
+    → AreSpelled first second l f → text ≡ second → IsTrue strict → AreKept writers → IsLookRefusal l text e → HasRefusedBy strict way first second writers e
+refused_word first second strict way writers l f text (error.NoLabel place) spelled whole asked kept h = inr (record {
+  place = place;
+  f = f;
+  asked = asked;
+  spelled = spelled.formula;
+  absent = record { l = l; system = spelled.system.spelled; absent = subst (λ t. IsFirstAbsent l t (Some place)) whole h };
+  is = refl;
+  kept = kept;
+})
+refused_word first second strict way writers l f text error.Memory spelled whole asked kept h = inl (((l, spelled.system.spelled), kept), λ _. inl tt)
+refused_word first second strict way writers l f text e spelled whole asked kept h = absurd h
 
-pub known_looked : (first second : List ℕ) (strict : Bool) (was : Texts) (text : List ℕ) (r : Result Texts MuError)
-    → AreSpelled first second was.system.system (closed_formula was.formula) → text ≡ second → Looked was text r
-    → IfOk r (λ texts. IsTrue strict → KnowsWords first second)
-known_looked first second strict was text (Ok texts) spelled whole h = λ asked.
-    record { l = was.system.system; system = spelled.system.spelled; absent = subst (λ t. IsFirstAbsent was.system.system t None) whole h.1 }
-known_looked first second strict was text (Err e) spelled whole h = tt
+-- The refusal of a formula's text comes where the first text spells a system, and before its words are looked at.
+pub unread_by : (strict : Bool) (way : Way) (first second : List ℕ) (writers : List Lent) (e : MuError) → SpellsSystem first → IsReadRefusal second e
+    → AreKept writers → HasRefusedBy strict way first second writers e
+unread_by strict way first second writers (error.Formula e) spelled h kept = inl ((spelled, h, kept), λ asked. inl tt)
+unread_by strict way first second writers error.Read spelled h kept = inl ((spelled, kept), λ asked. inl tt)
+unread_by strict way first second writers error.Memory spelled h kept = inl ((spelled, kept), λ asked. inl tt)
+unread_by strict way first second writers e spelled h kept = absurd h
 
-pub refused_looked : (first second : List ℕ) (strict : Bool) (way : Way) (writers : List Lent) (was : Texts) (text : List ℕ) (r : Result Texts MuError)
-    → AreSpelled first second was.system.system (closed_formula was.formula) → text ≡ second → IsTrue strict → AreKept writers → Looked was text r
-    → IfErr r (HasRefusedBy strict way first second writers)
-refused_looked first second strict way writers was text (Ok texts) spelled whole asked kept h = tt
-refused_looked first second strict way writers was text (Err e) spelled whole asked kept h = by e h
-  where
-    by : (e : MuError) → IsLookRefusal was.system.system text e → HasRefusedBy strict way first second writers e
-    by (error.NoLabel place) k = inr (record {
-      place = place;
-      f = closed_formula was.formula;
-      asked = asked;
-      spelled = spelled.formula;
-      absent = record { l = was.system.system; system = spelled.system.spelled; absent = subst (λ t. IsFirstAbsent was.system.system t (Some place)) whole k };
-      is = refl;
-      kept = kept;
-    })
-    by error.Memory k = inl (((was.system.system, spelled.system.spelled), kept), λ _. inl tt)
-    by (error.Arguments e) k = absurd k
-    by error.File k = absurd k
-    by error.Read k = absurd k
-    by (error.System e) k = absurd k
-    by (error.Formula e) k = absurd k
-    by (error.Normal e) k = absurd k
-    by (error.Build e) k = absurd k
-    by (error.Game e) k = absurd k
-    by (error.Evidence e) k = absurd k
-    by (error.Table e) k = absurd k
-    by (error.Solve e) k = absurd k
-    by (error.Schedule e) k = absurd k
-    by (error.Write e) k = absurd k
+pub fault_read : (text : List ℕ) (e : MuError) → IsReadFault e → IsReadRefusal text e
+fault_read text (error.Formula e) h = absurd h
+fault_read text e h = h
 
--- Where nothing is asked of the words, nothing is said of them.
-pub unasked : (first second : List ℕ) (strict : Bool) → strict ≡ false → IsTrue strict → KnowsWords first second
-unasked first second strict is asked = absurd (true≢false (sym asked ∙ is))
+-- Where nothing is asked of the words, none is refused.
+pub unasked : (way : Way) (first second : List ℕ) (writers : List Lent) (e : MuError) → HasRefusedBy false way first second writers e
+    → RefusesCheck way first second writers e
+unasked way first second writers e (inl h) = h.0
+unasked way first second writers e (inr h) = absurd (true≢false (sym h.asked))
+
+pub plainly : (e : MuError) → IsTrue false ⊎ IsErrorOf BySets e → IsErrorOf BySets e
+plainly e (inl h) = absurd (true≢false (sym h))
+plainly e (inr h) = h

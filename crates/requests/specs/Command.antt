@@ -1,5 +1,5 @@
 -- What a command has.
-use Rattle.std.specs.Prelude.{if◌then◌else◌, Some, None, false, true}
+use Rattle.std.specs.Prelude.{if◌then◌else◌, Some, None, false}
 use Rattle.requests.specs.declared.request.Check.{Check as TheCheck}
 use Rattle.requests.specs.declared.request.ReportForm.{ReportForm}
 use Rattle.requests.specs.declared.request.Wanted.{Wanted}
@@ -12,10 +12,6 @@ way_of check = if check.plain then BySets else ByGame check.options.priorities (
 -- nothing before the report, which has this form
 abbrev pub report_alone : ReportForm → Wanted
 report_alone form = record { game = false; evidence = false; witness = None; report = form }
-
--- the evidence of both players before it
-abbrev pub evidence_alone : ReportForm → Wanted
-evidence_alone form = record { game = false; evidence = true; witness = None; report = form }
 
 -- With sets of states there is the report alone.
 abbrev pub wanted_in : TheCheck → Wanted → Wanted

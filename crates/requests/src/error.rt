@@ -27,6 +27,8 @@ pub enum CheckFile {
     EvenEvidence,
     OddEvidence,
     Witness,
+    /// The game that is solved.
+    SolvedGame,
     /// Standard output, where it is a file.
     Report,
 }
@@ -40,6 +42,7 @@ impl fmt::Display for CheckFile {
             CheckFile::EvenEvidence => "PATH.even of --evidence",
             CheckFile::OddEvidence => "PATH.odd of --evidence",
             CheckFile::Witness => "the file of --witness",
+            CheckFile::SolvedGame => "GAME",
             CheckFile::Report => "standard output",
         })
     }

@@ -1,6 +1,6 @@
 // What commands are asked for. The files are named as on the command line.
 
-ghost use Rattle.std.specs.Prelude.{◌≡◌, ◌≤◌, ◌↔◌, None, IsTrue, false, true};
+ghost use Rattle.std.specs.Prelude.{◌≡◌, ◌≤◌, ◌↔◌, None, IsTrue, false};
 
 use calculus::priorities::Priorities;
 pub use workers::team::BoardKind;
@@ -129,12 +129,5 @@ impl Wanted {
         ensures { IsTrue result ↔ (self.now ≡ record { game = false; evidence = false; witness = None; report = self.now.report }) }
     {
         !self.game && !self.evidence && self.witness.is_none()
-    }
-
-    /// Whether evidence is wanted before the report, and nothing else.
-    pub fn is_evidence(&self) -> bool
-        ensures { IsTrue result ↔ (self.now ≡ record { game = false; evidence = true; witness = None; report = self.now.report }) }
-    {
-        self.evidence && !self.game && self.witness.is_none()
     }
 }

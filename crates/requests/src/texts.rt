@@ -1,6 +1,6 @@
 // The texts of a check, read.
 
-ghost use Rattle.std.specs.Prelude.{◌≡◌, ◌≢◌, ℕ, List, take, IfOk, IfErr, IfSome, IsTrue, MatchResult, None, Some};
+ghost use Rattle.std.specs.Prelude.{◌≡◌, ◌≢◌, ◌⊎◌, ℕ, List, take, IfOk, IfErr, IfSome, IsTrue, Some};
 ghost use Rattle.calculus.specs.Closed.{closed_formula};
 ghost use Rattle.requests.specs.Causes.{HaveCauses};
 ghost use Rattle.requests.specs.declared.error.MuError.TheVariants as error;
@@ -8,8 +8,7 @@ ghost use Rattle.text.specs.Cause.{HasCause};
 ghost use Rattle.requests.specs.Texts.{IsFormulaOf, IsReadRefusal, IsReadFault, IsReadingRefusal};
 ghost use Rattle.requests.specs.Check.{Way, BySets, AreSpelled, RefusesCheck, IsErrorOf};
 ghost use Rattle.requests.specs.Known.{AreKnown};
-ghost use Rattle.requests.specs.Strict.{HasRefusedBy, IsLookRefusal, MayComeFirst, KnowsWords};
-ghost use Rattle.formula.specs.Absent.{IsFirstAbsent};
+ghost use Rattle.requests.specs.Strict.{HasRefusedBy, IsLookRefusal, KnowsWords};
 ghost use Rattle.requests.specs.Writers.{AreKept, Lent};
 
 use crate::error::MuError;
@@ -37,20 +36,6 @@ pub struct Texts {
     pub formula: Closed,
 }
 
-/// A formula that was read, and its text.
-#[derive(Drop)]
-struct FormulaWithText {
-    formula: Closed,
-    text: Vec<u8>,
-}
-
-/// Both texts, read, and that of the formula as it stands.
-#[derive(Drop)]
-struct TextsWithFormulaText {
-    texts: Texts,
-    text: Vec<u8>,
-}
-
 /// Reads the system and then the formula.
 ///
 /// # Errors
@@ -68,8 +53,7 @@ pub fn read_both<L: BuildHasher + Drop, R: Source + Drop, S: Source + Drop>(
     ensures plain { IfErr result (IsErrorOf BySets) }
     ensures cause { IfErr result (HaveCauses R.can_fail S.can_fail) }
 {
-    let reading = read_all(alloc, hasher, aut, formula, &Silent)?;
-    Ok(texts_of(reading))
+    read_asked(alloc, hasher, aut, formula, false, &Silent)
 }
 
 /// Reads both as `read_both` does, and tells a watcher that the system is read, that the formula is, and what both are. Where it is strict, it
@@ -91,23 +75,17 @@ pub fn read_asked<L: BuildHasher + Drop, R: Source + Drop, S: Source + Drop, O: 
         → IfOk result (λ _. IsTrue strict → KnowsWords first second) }
     ensures refusal { (first second : List ℕ) → R.remaining aut ≡ Some first → S.remaining formula ≡ Some second
         → (way : Way) (writers : List Lent) → AreKept writers → IfErr result (HasRefusedBy strict way first second writers) }
+    ensures plain { IfErr result (λ e. IsTrue strict ⊎ IsErrorOf BySets e) }
     ensures cause { IfErr result (HaveCauses R.can_fail S.can_fail) }
 {
-    let reading = read_all(alloc, hasher, aut, formula, observer)?;
-    if strict {
-        strictly(alloc, reading)
-    } else {
-        Ok(texts_of(reading))
-    }
-}
-
-/// Both, where each word of the formula is on a transition.
-fn strictly(alloc: Global, reading: TextsWithFormulaText) -> Result<Texts, MuError>
-    ensures { let l = reading.texts.system.system in MatchResult result
-        (λ texts. (texts ≡ reading.texts) × IsFirstAbsent l reading.text.items None) (IsLookRefusal l reading.text.items) }
-{
-    look(alloc, &reading.texts.system, &reading.text)?;
-    Ok(texts_of(reading))
+    observer.sees(Stage::ReadingSystem);
+    let system = read_aut(alloc, hasher, aut).map_err(MuError::System)?;
+    observer.sees(Stage::ReadingFormula);
+    let text = read_front(alloc, formula)?;
+    let formula = parse_front(alloc, &text)?;
+    observer.has_read(&system, &formula);
+    look_where(alloc, &system, &text, strict)?;
+    Ok(Texts { system, formula })
 }
 
 /// Where that is asked for, looks for a word of a formula's text that is on no transition.
@@ -119,56 +97,14 @@ pub fn look_where(alloc: Global, system: &Lts, text: &[u8], strict: bool) -> Res
     ensures asked { IfErr result (λ _. IsTrue strict) }
     ensures refusal { IfErr result (IsLookRefusal system.now.system text.now) }
 {
-    if strict {
-        look(alloc, system, text)
-    } else {
-        Ok(())
+    if !strict {
+        return Ok(());
     }
-}
-
-/// Looks for a word of a formula's text that is on no transition.
-fn look(alloc: Global, system: &Lts, text: &[u8]) -> Result<(), MuError>
-    ensures { MatchResult result (λ _. IsFirstAbsent system.now.system text.now None) (IsLookRefusal system.now.system text.now) }
-{
     match first_absent(alloc, system, text) {
         Ok(None) => Ok(()),
         Ok(Some(offset)) => Err(MuError::NoLabel { offset }),
         Err(Memory) => Err(MuError::Memory),
     }
-}
-
-fn texts_of(reading: TextsWithFormulaText) -> Texts
-    ensures { result ≡ reading.texts }
-{
-    let TextsWithFormulaText { texts, text: _ } = reading;
-    texts
-}
-
-/// Reads the system and then the formula, and keeps the formula's text.
-fn read_all<L: BuildHasher + Drop, R: Source + Drop, S: Source + Drop, O: Watcher>(
-    alloc: Global,
-    hasher: L,
-    aut: R,
-    formula: S,
-    observer: &O,
-) -> Result<TextsWithFormulaText, MuError>
-    ensures spelled { (first second : List ℕ) → R.remaining aut ≡ Some first → S.remaining formula ≡ Some second
-        → IfOk result (λ r. AreSpelled first second r.texts.system.system (closed_formula r.texts.formula)) }
-    ensures text { (second : List ℕ) → S.remaining formula ≡ Some second → IfOk result (λ r. r.text.items ≡ second) }
-    ensures refusal { (first second : List ℕ) → R.remaining aut ≡ Some first → S.remaining formula ≡ Some second
-        → (way : Way) (writers : List Lent) → AreKept writers → IfErr result (RefusesCheck way first second writers) }
-    ensures plain { IfErr result (IsErrorOf BySets) }
-    ensures unread { IfErr result MayComeFirst }
-    ensures cause { IfErr result (HaveCauses R.can_fail S.can_fail) }
-{
-    observer.sees(Stage::ReadingSystem);
-    let system = read_aut(alloc, hasher, aut).map_err(MuError::System)?;
-    observer.sees(Stage::ReadingFormula);
-    let spelled = read_spelled(alloc, formula)?;
-    observer.has_read(&system, &spelled.formula);
-    let FormulaWithText { formula, text } = spelled;
-    let texts = Texts { system, formula };
-    Ok(TextsWithFormulaText { texts, text })
 }
 
 /// Reads a formula. Of a text that is too long no more is read than shows it.
@@ -181,31 +117,8 @@ pub fn read_formula<S: Source + Drop>(alloc: Global, formula: S) -> Result<Close
     ensures fault { IfErr result IsReadingRefusal }
     ensures cause { IfErr result (HasCause S.can_fail error.Read) }
 {
-    let spelled = read_spelled(alloc, formula)?;
-    Ok(spelled_formula(spelled))
-}
-
-fn spelled_formula(spelled: FormulaWithText) -> Closed
-    ensures { result ≡ spelled.formula }
-{
-    let FormulaWithText { formula, text: _ } = spelled;
-    formula
-}
-
-/// Reads a formula, and keeps its text.
-fn read_spelled<S: Source + Drop>(alloc: Global, formula: S) -> Result<FormulaWithText, MuError>
-    ensures spelled { IfOk result (λ s. IfSome (S.remaining formula) (λ text. IsFormulaOf text (closed_formula s.formula))) }
-    ensures text { IfOk result (λ s. IfSome (S.remaining formula) (λ text. s.text.items ≡ text)) }
-    ensures refusal { (text : List ℕ) → S.remaining formula ≡ Some text → IfErr result (IsReadRefusal text) }
-    ensures fault { IfErr result IsReadingRefusal }
-    ensures cause { IfErr result (HasCause S.can_fail error.Read) }
-{
     let front = read_front(alloc, formula)?;
-    let formula = parse_front(alloc, &front)?;
-    Ok(FormulaWithText {
-        formula,
-        text: front,
-    })
+    parse_front(alloc, &front)
 }
 
 /// The formula that a text spells, of which this is all, or what `read_front` answers of it.

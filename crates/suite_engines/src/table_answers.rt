@@ -5,7 +5,7 @@ use calculus::closed::Closed;
 use engines::request::Table;
 use engines::watch::Watcher;
 use game::gauge::Gauge;
-use game::observer::{Observer, Stage};
+use game::observer::{Observer, Silent, Stage};
 use lts::Lts;
 use samples::texts::RING;
 use samples::writers::{AtEnd, Narrow};
@@ -15,7 +15,7 @@ use std::process::Abort;
 use std::sync::Wait;
 use std::sync::atomic::{AtomicU64, Ordering};
 use std::thread::Threads;
-use table_lines::table::{table_line, table_line_seen};
+use table_lines::table::table_line;
 
 /// A table, by sets of states or by the game, strict or not.
 fn table(alloc: Global, plain: bool, strict: bool) -> Table<'static> {
@@ -38,7 +38,8 @@ fn line_of<W: Write, R: AllocGlobal + Threads + Wait + Clone + Copy + Drop + Sen
     out: &mut W,
 ) -> Option<u8> {
     let alloc = rt.alloc();
-    table_line(rt, alloc, system, request, "f.mcf", formula.as_bytes(), out).ok()
+    let bytes = formula.as_bytes();
+    table_line(rt, alloc, system, request, "f.mcf", bytes, out, &Silent).ok()
 }
 
 /// The formula has this line, and answers its status.
@@ -163,7 +164,7 @@ fn is_seen<R: Abort + AllocGlobal + Threads + Wait + Clone + Copy + Drop + Send 
     let request = table(rt.alloc(), false, true);
     let bytes = formula.as_bytes();
     let alloc = rt.alloc();
-    let answer = table_line_seen(rt, alloc, system, &request, "f.mcf", bytes, &mut out, told);
+    let answer = table_line(rt, alloc, system, &request, "f.mcf", bytes, &mut out, told);
     holds!(rt; answer.is_ok());
     is_text(rt, out.as_slice(), line);
 }

@@ -17,7 +17,7 @@ use crate::expectation::expectation;
 use calculus::closed::Closed;
 use formula::error::{FormulaError, FormulaFault};
 use game::error::BuildError;
-use game::observer::{Observer, Silent, Stage};
+use game::observer::{Observer, Stage};
 use lts::system::Lts;
 use lts::{Piece, WriteFault, put, put_pieces};
 use normal::error::NormalError;
@@ -49,30 +49,11 @@ pub struct LineAnswer {
 /// Writes the line of a formula's text, as a table is asked for: the initial state's answer and how many states satisfy the formula, or why there
 /// is no answer; and the name. It answers the status that the line comes to: 0 where the answer is as expected, which is yes where the
 /// text says nothing, else 1, and of a refusal that of `status`. Where the table is strict, a formula is refused of which a word is on no
-/// transition.
+/// transition. A watcher is told that the formula is read, and what is being built, searched and lifted.
 ///
 /// # Errors
 /// W1.
-pub fn table_line<S: Source + Drop, W: Sink, H: Threads + Wait + Clone + Copy + Drop + Send + Sync>(
-    rt: &H,
-    alloc: Global,
-    system: &Lts,
-    request: &Table<'_>,
-    name: &str,
-    formula: S,
-    out: &mut W,
-) -> Result<u8, WriteFault>
-    ensures { TellsLine request.now.strict (way_by request.now.options request.now.plain) system.now.system S.can_fail name.now
-        (S.remaining formula) (W.taken out.old) (W.taken out.new) result }
-{
-    table_line_seen(rt, alloc, system, request, name, formula, out, &Silent)
-}
-
-/// Writes the line of a formula's text as `table_line` does, and tells a watcher that the formula is read, and what is being built, searched and lifted.
-///
-/// # Errors
-/// W1.
-pub fn table_line_seen<
+pub fn table_line<
     S: Source + Drop,
     W: Sink,
     U: Watcher + Sync,

@@ -1,6 +1,6 @@
 use Rattle.table_lines.specs.Table.{way_by}
 use Rattle.table_lines.proofs.Telling.{answered, refused}
-use Rattle.table_lines.proofs.table.table_line_seen.Goals as goal
+use Rattle.table_lines.proofs.table.table_line.Goals as goal
 
 pub returns-in-Ok : goal.returns-in-Ok
 returns-in-Ok g c = λ text known.
