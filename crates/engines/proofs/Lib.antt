@@ -5,3 +5,5 @@ mod Winning
 mod Putting
 mod Reasoning
 mod Caused
+mod Leasts
+mod GameTexts

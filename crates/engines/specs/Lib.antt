@@ -1,3 +1,4 @@
+pub mod Alone
 pub mod Prepared
 pub mod Reasons
 pub mod StrictReasons

@@ -10,6 +10,8 @@ ghost use Rattle.engines.specs.Prepared.{ArePrepared, IsUnprepared};
 ghost use Rattle.verdicts.specs.Findings.{AreFindings, formula_found, system_of, way_in};
 ghost use Rattle.requests.specs.Writers.{lent_writers, report_writer};
 
+use crate::game_text::{check_game, is_game_alone};
+use crate::least::{check_least, is_evidence_alone};
 use crate::outputs::{answer, put_wanted};
 use crate::prepared::{Prepared, prepare};
 use game::observer::{Observer, Stage};
@@ -173,7 +175,15 @@ fn check_by_game<
         let out = &mut writers.report;
         return report_by_game(rt, alloc, &texts, options, wanted.report, out, watcher);
     }
+    if is_game_alone(wanted) {
+        return check_game(rt, alloc, &texts, options, wanted, writers, watcher);
+    }
     let least = least_found(alloc, &texts, options, watcher);
+    if is_evidence_alone(wanted) {
+        if let Some(least) = &least {
+            return check_least(alloc, &texts, options, least, wanted, writers, watcher);
+        }
+    }
     let found = find_in(rt, alloc, texts, least, options, watcher)?;
     tell_making(&found, wanted, watcher);
     let prepared = prepare(alloc, &found, wanted);

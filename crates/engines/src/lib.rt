@@ -3,6 +3,8 @@
 #![tactic(auto)]
 
 pub mod engine;
+mod game_text;
+mod least;
 pub mod named;
 mod outputs;
 mod prepared;

@@ -4,7 +4,7 @@ use crate::common::{DEFAULTS, holds, holds_of};
 use crate::unwritten::{TextBuffers, unwritten};
 use calculus::closed::Closed;
 use engines::engine::check_asked;
-use engines::request::{Check, ReportForm, Wanted};
+use engines::request::{Check, ReportForm, Wanted, WitnessForm};
 use engines::watch::Watcher;
 use game::gauge::{Gauge, GaugeReading};
 use game::observer::{Observer, Stage};
@@ -156,9 +156,23 @@ const EVIDENCE: Wanted = Wanted {
 };
 
 #[test]
-fn a_check_with_evidence_tells_that_it_is_made(rt: HostRuntime) {
+fn a_check_with_evidence_builds_no_game(rt: HostRuntime) {
     let told = StageCounts::new();
     is_checked(&rt, false, EVIDENCE, &told);
+    has_stages(&rt, &told, 1_001_011);
+}
+
+const WITNESS: Wanted = Wanted {
+    game: false,
+    evidence: false,
+    witness: Some(WitnessForm::System),
+    report: ReportForm::Whole,
+};
+
+#[test]
+fn a_check_with_a_witness_tells_that_it_is_made(rt: HostRuntime) {
+    let told = StageCounts::new();
+    is_checked(&rt, false, WITNESS, &told);
     has_stages(&rt, &told, 11_001_111);
     // Two states with two nodes each are built.
     let whole = GaugeReading { done: 4, whole: 4 };

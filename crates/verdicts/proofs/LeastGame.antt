@@ -1,6 +1,7 @@
 -- The player's game, and the lines of the player's evidence.
 use Rattle.std.proofs.Common.{◌≡◌, ◌≢◌, ℕ, zero, suc, ◌+◌, ◌-◌, ◌*◌, ◌<◌, ◌≤◌, List, [], ◌∷◌, ◌++◌, length, refl, sym, ap, subst, ◌∙◌, arith, Some, Option}
-use Rattle.std.proofs.Common.{append_assoc}
+use Rattle.std.proofs.Common.{append_assoc, true≢false, Result, Ok, Err}
+use Rattle.std.specs.Result.{IsErr}
 use Rattle.std.specs.Prelude.{slice_get}
 use Rattle.std.proofs.lemmas.List.{length-map}
 use Rattle.std.proofs.lemmas.Nat.{mul-add-lt}
@@ -8,7 +9,7 @@ use Rattle.std.proofs.lemmas.Slice.Zip.{AllZip-long}
 use Rattle.systems.specs.System.{System}
 use Rattle.text.specs.Pieces.{line_end}
 use Rattle.text.specs.Taken.{Taken}
-use Rattle.text.specs.Wrote.{HasWritten, lines_from}
+use Rattle.text.specs.Wrote.{HasWritten, Passed, WroteFront, lines_from}
 use Rattle.text.proofs.Writing.{HasWritten-none}
 use Rattle.calculus.specs.Form.{IsForm, IsNode}
 use Rattle.calculus.specs.Nodes.{Node}
@@ -36,6 +37,16 @@ use Rattle.evidence.proofs.Written.{all_lines}
 use Rattle.verdicts.specs.declared.evidence_text.LeastMeasures.{LeastMeasures}
 use Rattle.verdicts.specs.declared.evidence_text.MeasuredVertex.{MeasuredVertex}
 use Rattle.verdicts.specs.EvidenceText.{AreLeastMeasures, IsMeasuredIn, arena_in, game_in, measured_vertex, nodes_in, rise_for, states_in, table_in, vertex_for}
+
+-- a text was not written whole after what waited
+pub passed_halts : {T E : Type 0} → (a b : Taken) (waiting now : List ℕ) (r : Result T E) (text : List ℕ) → IsErr r → WroteFront a b (waiting ++ text)
+    → Passed a b waiting now r text
+passed_halts a b waiting now (Ok x) text h w = absurd (true≢false (sym h))
+passed_halts a b waiting now (Err x) text h w = w
+
+-- where nothing waits
+pub nothing_waits : (a b : Taken) (text waiting rest : List ℕ) → waiting ≡ [] → HasWritten a b text rest → HasWritten a b text (waiting ++ rest)
+nothing_waits a b text waiting rest none h = subst (λ w. HasWritten a b text (w ++ rest)) (sym none) h
 
 -- ---- vertices in the player's game
 

@@ -1,5 +1,5 @@
 -- What the evidence of a player is written from, where no game is stored.
-use Rattle.std.specs.Prelude.{◌≡◌, ◌≢◌, ◌+◌, ◌*◌, ◌<◌, ◌≤◌, ◌⊎◌, ℕ, Bool, true, List, Some, length, map, slice_get, if◌then◌else◌}
+use Rattle.std.specs.Prelude.{◌≡◌, ◌≢◌, ◌+◌, ◌*◌, ◌++◌, ◌<◌, ◌≤◌, ◌⊎◌, ℕ, Bool, true, List, MatchBool, Some, length, map, slice_get, if◌then◌else◌}
 use Rattle.systems.specs.declared.system.Transition.{Transition}
 use Rattle.calculus.specs.NodeView.{node_of}
 use Rattle.calculus.specs.Nodes.{Node}
@@ -94,3 +94,7 @@ pub record IsBestOfSteps (m : LeastMeasures) (at : MeasuredVertex) (child sink :
       → (2 ≤ best) × (best ≤ place (length (nodes_in m)) t.target child)
   pub found : (best ≡ sink) ⊎ ((i : ℕ) × (t : Transition) × (slice_get row i ≡ Some t) × IsReachedStep m at child t
       × (best ≡ place (length (nodes_in m)) t.target child))
+
+-- A line is put to the bytes that wait, or none of it is.
+abbrev pub Waits : (waiting now_waiting : List ℕ) → Bool → List ℕ → Type 0
+Waits waiting now_waiting added line = MatchBool added (now_waiting ≡ waiting ++ line) (now_waiting ≡ waiting)

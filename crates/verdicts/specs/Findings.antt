@@ -23,6 +23,7 @@ use Rattle.verdicts.specs.declared.lifting.Winners.TheVariants.{Table, Marks as 
 use Rattle.verdicts.specs.declared.findings.Findings.{Findings}
 use Rattle.verdicts.specs.declared.findings.GameToSolve.{GameToSolve}
 use Rattle.evidence.specs.declared.pair.EvidencePair.{EvidencePair}
+use Rattle.verdicts.specs.declared.marks.MarkedGame.{MarkedGame}
 use Rattle.verdicts.specs.declared.proposing.LeastFound.{LeastFound}
 use Rattle.calculus.specs.declared.priorities.Priorities.{Priorities}
 use Rattle.workers.specs.declared.team.BoardKind.{BoardKind}
@@ -47,6 +48,11 @@ pub record IsLeastFound (rule : Priorities) (board : BoardKind) (l : System) (f 
   pub fits : (g : Game) → FitsBoard (Some board) g
   pub form : normal_nodes x.form ≡ nodes_with rule f
   pub least : AreLeastOf l (nodes_with rule f) x.proposals
+
+-- The game is that of the system and the formula, and the marks are the states'.
+pub record IsMarkedGame (rule : Priorities) (board : BoardKind) (l : System) (f : Formula) (x : MarkedGame) : Type 0 where
+  pub game : IsArenaOf rule l f (arc_value x.game)
+  pub marks : AreMarks (ByGame rule (Some board)) l f x.marks.items
 
 -- They are the winners of the game.
 abbrev pub AreWinnersOf : Game → Winners → Type 0

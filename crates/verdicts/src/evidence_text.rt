@@ -11,13 +11,14 @@ ghost use Rattle.game.specs.declared.limits.TheConstants.{MOST_VERTICES};
 ghost use Rattle.game.specs.Arena.{arena, owner_of, place};
 ghost use Rattle.measures.specs.Progress.{IsLeastTable};
 ghost use Rattle.measures.specs.StoredProposal.{game_for, values_of};
-ghost use Rattle.text.specs.Wrote.{Wrote, lines_from};
+ghost use Rattle.text.specs.Wrote.{Passed, Wrote, lines_from};
 ghost use Rattle.verdicts.specs.EvidenceText.{
   AreLeastMeasures,
   IsBetterOf,
   IsMeasuredIn,
   IsModality,
   ReachesNext,
+  Waits,
   arena_in,
   game_in,
   measured_vertex,
@@ -36,8 +37,8 @@ use game::player::Player;
 use lts::system::Lts;
 use measures::measure::Measure;
 use measures::proposal::Proposals;
-use text::WriteFault;
 use text::sink::Sink;
+use text::{Batch, WriteFault};
 
 /// What evidence is written from: the arena of a system and a normal form, with the labels that modalities take, and a player's least measures.
 #[derive(Clone, Copy)]
@@ -247,22 +248,70 @@ impl LeastMeasures<'_> {
         )
     }
 
-    // Writes the lines of a state.
-    fn put_state<W: Sink>(&self, state: u32, writer: &mut W) -> Result<(), WriteFault>
+    // Puts the line of a vertex to the bytes that wait, if there is room for it.
+    fn wait(&self, state: u32, number: u32, batch: &mut Batch) -> bool
+        requires known { AreLeastMeasures self.now }
+        requires state { state < states_in self.now }
+        requires number { number < length (nodes_in self.now) }
+        ensures { (e : Evidence) → IsBestOf self.now.player (arena_in self.now) e
+            → Waits batch.old.bytes.items batch.new.bytes.items result (entry_line_at e.entries (place (length (nodes_in self.now)) state number)) }
+    {
+        let waiting = batch.bytes.len();
+        match self.put_vertex(state, number, batch) {
+            Ok(()) => true,
+            Err(WriteFault) => {
+                batch.bytes.truncate(waiting);
+                false
+            }
+        }
+    }
+
+    // Writes the line of a vertex, or lets it wait. What waits is written first where there is no room.
+    fn pass<W: Sink>(
+        &self,
+        state: u32,
+        number: u32,
+        batch: &mut Batch,
+        writer: &mut W,
+    ) -> Result<(), WriteFault>
+        requires known { AreLeastMeasures self.now }
+        requires state { state < states_in self.now }
+        requires number { number < length (nodes_in self.now) }
+        ensures { (e : Evidence) → IsBestOf self.now.player (arena_in self.now) e
+            → Passed (W.taken writer.old) (W.taken writer.new) batch.old.bytes.items batch.new.bytes.items result
+            (entry_line_at e.entries (place (length (nodes_in self.now)) state number)) }
+    {
+        if self.wait(state, number, batch) {
+            return Ok(());
+        }
+        batch.send(writer)?;
+        if self.wait(state, number, batch) {
+            return Ok(());
+        }
+        self.put_vertex(state, number, writer)
+    }
+
+    // Writes the lines of a state, or lets them wait.
+    fn pass_state<W: Sink>(
+        &self,
+        state: u32,
+        batch: &mut Batch,
+        writer: &mut W,
+    ) -> Result<(), WriteFault>
         requires known { AreLeastMeasures self.now }
         requires state { state < states_in self.now }
         ensures { (e : Evidence) → IsBestOf self.now.player (arena_in self.now) e
-            → Wrote (W.taken writer.old) (W.taken writer.new) result
+            → Passed (W.taken writer.old) (W.taken writer.new) batch.old.bytes.items batch.new.bytes.items result
             (lines_from (entry_line_at e.entries) (place (length (nodes_in self.now)) state 0) (length (nodes_in self.now))) }
     {
         for number in 0..self.form.count() {
-            self.put_vertex(state, number, writer)?;
+            self.pass(state, number, batch, writer)?;
         }
         Ok(())
     }
 
     /// Writes the evidence of all that the player wins, by the player's least progress table: its measures are the ranks, and the player goes on to the least of
-    /// the successors with the least `prog`. It takes no memory.
+    /// the successors with the least `prog`. It takes no memory, and few writes.
     ///
     /// # Errors
     /// After a fault the writer holds a beginning of the text.
@@ -278,9 +327,10 @@ impl LeastMeasures<'_> {
         put_header(self.player, writer)?;
         self.put_sink(0, writer)?;
         self.put_sink(1, writer)?;
+        let mut batch = Batch::new();
         for state in 0..self.system.states() {
-            self.put_state(state, writer)?;
+            self.pass_state(state, &mut batch, writer)?;
         }
-        Ok(())
+        batch.send(writer)
     }
 }

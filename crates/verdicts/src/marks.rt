@@ -1,9 +1,10 @@
 // The states of a system that satisfy a formula, of texts that are lent.
 
-ghost use Rattle.std.specs.Prelude.{MatchResult, Some};
+ghost use Rattle.std.specs.Prelude.{IfSome, MatchResult, Some};
 ghost use Rattle.std.specs.Arc.{arc_value};
 ghost use Rattle.calculus.specs.Closed.{closed_formula};
 ghost use Rattle.requests.specs.Check.{AreMarks, BySets, ByGame, IsArenaOf, IsBeyond};
+ghost use Rattle.verdicts.specs.Findings.{IsMarkedGame};
 
 use crate::lifting::{Winners, state_marks};
 use crate::ranked::ranked_marks;
@@ -48,24 +49,53 @@ pub fn game_marks<O: Observer + Sync, H: Threads + Wait + Clone + Copy + Drop + 
 {
     match ranked_marks(rt, alloc, system, formula, options, observer) {
         Some(marks) => Ok(marks),
-        None => stored_marks(rt, alloc, system, formula, options, observer),
+        None => Ok(with_game(rt, alloc, system, formula, None, options, observer)?.marks),
     }
 }
 
-/// A mark for each state, true where it satisfies the formula, by the game, which is stored.
+/// The game of a system and a formula, and a mark for each state, true where it satisfies the formula.
+#[derive(Drop)]
+pub struct MarkedGame {
+    pub game: Arc<Game, Global>,
+    pub marks: Vec<bool>,
+}
+
+/// The game, which is stored, with a mark for each state: by a ranking, where one that is guessed is good.
 ///
 /// # Errors
 /// Those of `game_marks`.
-fn stored_marks<O: Observer + Sync, H: Threads + Wait + Clone + Copy + Drop + Send + Sync>(
+pub fn marked_game<O: Observer + Sync, H: Threads + Wait + Clone + Copy + Drop + Send + Sync>(
     rt: &H,
     alloc: Global,
     system: &Lts,
     formula: &Closed,
     options: &Options,
     observer: &O,
-) -> Result<Vec<bool>, MuError>
+) -> Result<MarkedGame, MuError>
     ensures { let l = system.now.system in let f = closed_formula formula.now in let way = ByGame options.now.priorities (Some options.now.board) in
-        MatchResult result (λ marks. AreMarks way l f marks.items) (IsBeyond way l f) }
+        MatchResult result (IsMarkedGame options.now.priorities options.now.board l f) (IsBeyond way l f) }
+{
+    let ranked = ranked_marks(rt, alloc, system, formula, options, observer);
+    with_game(rt, alloc, system, formula, ranked, options, observer)
+}
+
+/// The game, which is stored, with these marks, or with those that are found in it.
+///
+/// # Errors
+/// Those of `game_marks`.
+fn with_game<O: Observer + Sync, H: Threads + Wait + Clone + Copy + Drop + Send + Sync>(
+    rt: &H,
+    alloc: Global,
+    system: &Lts,
+    formula: &Closed,
+    marks: Option<Vec<bool>>,
+    options: &Options,
+    observer: &O,
+) -> Result<MarkedGame, MuError>
+    requires { let l = system.now.system in let f = closed_formula formula.now in
+        IfSome marks (λ marks. AreMarks (ByGame options.now.priorities (Some options.now.board)) l f marks.items) }
+    ensures { let l = system.now.system in let f = closed_formula formula.now in let way = ByGame options.now.priorities (Some options.now.board) in
+        MatchResult result (IsMarkedGame options.now.priorities options.now.board l f) (IsBeyond way l f) }
 {
     observer.sees(Stage::Building {
         states: system.states(),
@@ -79,7 +109,11 @@ fn stored_marks<O: Observer + Sync, H: Threads + Wait + Clone + Copy + Drop + Se
         observer.gauge(),
     )?;
     let game = Arc::new(alloc, game)?;
-    marks_in(rt, alloc, system, formula, &game, options, observer)
+    let marks = match marks {
+        Some(marks) => marks,
+        None => marks_in(rt, alloc, system, formula, &game, options, observer)?,
+    };
+    Ok(MarkedGame { game, marks })
 }
 
 /// A mark for each state, true where it satisfies the formula, in the game of both.

@@ -1,4 +1,4 @@
-use Rattle.std.proofs.Common.{◌-◌, ◌*◌, length}
+use Rattle.std.proofs.Common.{◌-◌, ◌*◌, ◌++◌, length}
 use Rattle.text.specs.Wrote.{HasWritten, lines_from}
 use Rattle.game.specs.Arena.{place}
 use Rattle.evidence.specs.Best.{IsBestOf}
@@ -12,4 +12,4 @@ invariant-loop-state g l =
     let n = length (nodes_in l.self) in
     (e : Evidence) → IsBestOf l.self.player (arena_in l.self) e
     → HasWritten (g.W.Sink.taken l.fn.writer) (g.W.Sink.taken l.writer) (evidence_text e)
-    (lines_from (entry_line_at e.entries) (place n l.state 0) ((states_in l.self - l.state) * n))
+    (l.batch.bytes.items ++ lines_from (entry_line_at e.entries) (place n l.state 0) ((states_in l.self - l.state) * n))
