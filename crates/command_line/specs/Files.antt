@@ -3,6 +3,8 @@ use Rattle.std.specs.Prelude.{ℕ, ◌+◌, ◌≤◌, Bool, false, List, [], �
 use Rattle.std.specs.Borrow.{Bor}
 use Rattle.std.specs.Option.{option_map_or}
 use Rattle.std.specs.Str.{bytes_eq}
+use Rattle.requests.specs.declared.error.CheckFile.{CheckFile}
+use Rattle.requests.specs.declared.error.CheckFile.TheVariants.{SolvedGame, System}
 use Rattle.requests.specs.declared.request.ReportForm.TheVariants.{Whole}
 use Rattle.command_line.specs.declared.request.Command.{Command}
 use Rattle.command_line.specs.declared.request.Command.TheVariants.{Check, Explain, Help, Labels, Normal, Replay, Solve, Table, Verify, Version, Why}
@@ -23,6 +25,11 @@ files_of _ = None ∷ None ∷ None ∷ None ∷ []
 abbrev pub formulas_of : Command → List (Bor (List ℕ))
 formulas_of (Table table) = table.formulas.items
 formulas_of _ = []
+
+-- what the first of them is, beside files that it writes
+abbrev pub main_file_of : Command → CheckFile
+main_file_of (Solve solve) = SolvedGame
+main_file_of _ = System
 
 -- where its texts go
 abbrev pub outputs_of : Command → Outputs

@@ -2,7 +2,7 @@
 
 ghost use Rattle.std.specs.Prelude.{◌≡◌, ◌↔◌, IsTrue};
 ghost use Rattle.command_line.specs.Command.{IsReportAlone};
-ghost use Rattle.command_line.specs.Files.{files_of, formulas_of, outputs_of};
+ghost use Rattle.command_line.specs.Files.{files_of, formulas_of, main_file_of, outputs_of};
 
 use requests::error::CheckFile;
 use requests::request::{Check, Normalize, Replay, ReportForm, Solve, Table, Verify, Why};
@@ -72,7 +72,9 @@ impl<'a> Command<'a> {
     }
 
     /// Which file the first of those is that it reads beside files that it writes.
-    pub fn main_file(&self) -> CheckFile {
+    pub fn main_file(&self) -> CheckFile
+        ensures { result ≡ main_file_of self.now }
+    {
         match self {
             Command::Solve(_) => CheckFile::SolvedGame,
             _ => CheckFile::System,
