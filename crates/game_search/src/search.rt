@@ -299,7 +299,7 @@ impl GameSearch<'_> {
                 break
             };
             if self.guess.cell(v).state == CellState::Open {
-                self.pass(v, ChangeAction::Join, p);
+                self.changed.push(v);
                 self.spread(ChangeAction::Join, p);
             }
         }
