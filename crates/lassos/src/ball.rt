@@ -1,115 +1,134 @@
-// The vertices to which plays can come from one within some number of steps.
+// The vertices to which plays can come from one, the nearest first, and the ways between them.
 
 use crate::field::Field;
+use crate::order::SearchOrder;
 use game::list::List;
 use std::alloc::{AllocError, Global};
-use std::mem;
 
-// A vertex to which a play can come, and from which place of the list it does.
-#[derive(Clone, Copy)]
-struct FoundVertex {
-    v: u32,
-    from: u32,
+/// Stands for the place of a vertex that the player doesn't win.
+pub(crate) const LOST: u32 = u32::MAX;
+
+/// Stands for the place of a vertex that the player wins, as long as it has none.
+pub(crate) const UNMET: u32 = u32::MAX - 1;
+
+/// A vertex to which a play can come.
+#[derive(Clone, Copy, Default)]
+pub(crate) struct Place {
+    pub(crate) vertex: u32,
+    pub(crate) priority: u8,
+    /// Whether it takes a step to go on from it.
+    pub(crate) is_step: bool,
+    /// How many steps lead to it at least.
+    pub(crate) far: u32,
+    /// The place before, on one of the shortest ways to it.
+    pub(crate) before: u32,
+    // Where the ways on from it stand among all.
+    start: u32,
+    end: u32,
 }
 
-/// Vertices, the nearest first. The first is the one from which plays begin.
+/// The vertices that have a place. The first is the one from which plays begin.
 #[derive(Drop)]
-pub(crate) struct Ball {
-    pub(crate) vertices: List<u32>,
-    /// How many steps lead to each of them at least.
-    pub(crate) far: List<u32>,
-    /// The place of the vertex before, on one of the shortest ways there.
-    pub(crate) before: List<u32>,
-    // One more than the place in the list for each vertex of the game that is in it.
-    places: List<u32>,
-    // What is reached by so many steps, and what by one more.
-    level: u32,
-    near: Vec<FoundVertex>,
-    later: Vec<FoundVertex>,
+pub(crate) struct Ball<'g> {
+    pub(crate) field: Field<'g>,
+    places: List<Place>,
+    ways: List<u32>,
+    // The place of each vertex of the game.
+    of_vertices: List<u32>,
+    order: SearchOrder,
 }
 
-impl Ball {
-    /// Nothing yet, around a vertex.
-    pub(crate) fn new(alloc: Global, field: Field, center: u32) -> Result<Self, AllocError> {
+impl<'g> Ball<'g> {
+    /// A vertex alone, where no vertex of the game has a place yet.
+    pub(crate) fn new(
+        alloc: Global,
+        field: Field<'g>,
+        of_vertices: List<u32>,
+        center: u32,
+    ) -> Self {
         let mut ball = Ball {
-            vertices: List::none(alloc),
-            far: List::none(alloc),
-            before: List::none(alloc),
-            places: List::filled(alloc, field.game.vertices() as usize, 0),
-            level: 0,
-            near: Vec::new(alloc),
-            later: Vec::new(alloc),
+            field,
+            places: List::none(alloc),
+            ways: List::none(alloc),
+            of_vertices,
+            order: SearchOrder::START,
         };
-        ball.near.push(FoundVertex { v: center, from: 0 })?;
-        // Without places no vertex would be known to be in the ball, and it would grow for ever.
-        ball.check()?;
-        Ok(ball)
+        ball.place(center, 0, 0);
+        ball
     }
 
-    /// The place of a vertex, if it is in the ball.
-    pub(crate) fn place(&self, v: u32) -> Option<u32> {
-        self.places.get_or(v as usize, 0).checked_sub(1)
+    /// How many places there are.
+    pub(crate) fn len(&self) -> u32 {
+        number(self.places.len())
     }
 
-    /// Whether plays come to no other vertex.
-    pub(crate) fn is_whole(&self) -> bool {
-        self.near.is_empty()
+    /// What is known of a place.
+    pub(crate) fn at(&self, place: u32) -> Place {
+        self.places.get_or(place as usize, Place::default())
     }
 
-    /// Adds the nearest vertices, as far away as the last one that is added, until it has so many. Each is added once, so the ball is whole some time.
-    pub(crate) fn grow(&mut self, field: Field, most: usize) -> Result<(), AllocError> {
-        for _ in 0..u32::MAX {
-            if self.vertices.len() >= most || self.is_whole() {
+    /// Where ways lead from a place.
+    pub(crate) fn after(&self, place: u32) -> &[u32] {
+        let Place { start, end, .. } = self.at(place);
+        self.ways.slice(start as usize, end as usize)
+    }
+
+    /// Adds the nearest vertices, until there are so many, or plays come to no others.
+    pub(crate) fn grow(&mut self, most: u32) -> Result<(), AllocError> {
+        for _ in 0..u64::MAX {
+            if self.len() >= most {
                 break;
             }
-            self.add_level(field)?;
-            self.level = self.level.saturating_add(1);
-            self.near.clear();
-            mem::swap(&mut self.near, &mut self.later);
+            let Some((place, by_step)) = self.order.next(self.places.len()) else {
+                break;
+            };
+            self.add_ways(number(place), by_step);
         }
-        self.check()
-    }
-
-    // Tells want of memory for a list.
-    fn check(&self) -> Result<(), AllocError> {
-        let is_known = self.far.is_whole() && self.before.is_whole() && self.places.is_whole();
-        if self.vertices.is_whole() && is_known {
+        if self.places.is_whole() && self.ways.is_whole() && self.of_vertices.is_whole() {
             Ok(())
         } else {
             Err(AllocError)
         }
     }
 
-    // Adds the vertices that are near, and those to which they lead without a step.
-    fn add_level(&mut self, field: Field) -> Result<(), AllocError> {
-        for next in 0..usize::MAX {
-            let Some(found) = self.near.get(next).copied() else {
-                break;
-            };
-            if self.place(found.v).is_none() {
-                self.add(field, found)?;
+    // Adds the ways from a place, if it takes a step to go on from there, or if it takes none.
+    fn add_ways(&mut self, before: u32, by_step: bool) {
+        let from = self.at(before);
+        if from.is_step != by_step {
+            return;
+        }
+        let start = number(self.ways.len());
+        let far = from.far.saturating_add(u32::from(by_step));
+        for v in self.field.ways(from.vertex) {
+            if let Some(place) = self.place(*v, far, before) {
+                self.ways.push(place);
             }
         }
-        Ok(())
+        let end = number(self.ways.len());
+        self.places
+            .set(before as usize, Place { start, end, ..from });
     }
 
-    fn add(&mut self, field: Field, found: FoundVertex) -> Result<(), AllocError> {
-        let from = u32::try_from(self.vertices.len()).unwrap_or(u32::MAX);
-        self.vertices.push(found.v);
-        self.far.push(self.level);
-        self.before.push(found.from);
-        self.places.set(found.v as usize, from.saturating_add(1));
-        let is_step = field.is_step(found.v);
-        for t in field.ways(found.v) {
-            if field.is_won(*t) && self.place(*t).is_none() {
-                let next = FoundVertex { v: *t, from };
-                if is_step {
-                    self.later.push(next)?;
-                } else {
-                    self.near.push(next)?;
-                }
-            }
+    // The place of a vertex, if the player wins it. It is added where there is none yet.
+    fn place(&mut self, vertex: u32, far: u32, before: u32) -> Option<u32> {
+        let known = self.of_vertices.get_or(vertex as usize, LOST);
+        if known != UNMET {
+            return (known != LOST).then_some(known);
         }
-        Ok(())
+        let place = self.len();
+        self.of_vertices.set(vertex as usize, place);
+        self.places.push(Place {
+            vertex,
+            priority: self.field.view(vertex).priority,
+            is_step: self.field.is_step(vertex),
+            far,
+            before,
+            ..Place::default()
+        });
+        Some(place)
     }
+}
+
+fn number(count: usize) -> u32 {
+    u32::try_from(count).unwrap_or(u32::MAX)
 }

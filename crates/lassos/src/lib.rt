@@ -2,11 +2,9 @@
 #![tactic(auto)]
 
 mod ball;
-mod closing;
 mod field;
 mod finding;
-mod graph;
-mod lasso;
+mod loops;
 pub mod making;
-mod ranks;
-mod strong;
+mod order;
+mod part;

@@ -6,120 +6,76 @@ ghost use Rattle.game.specs.Arena.{arena};
 ghost use Rattle.calculus.specs.Normal.{normal_nodes};
 ghost use Rattle.witness.specs.Witness.{GoesOneWay, root_of};
 
-use crate::field::{Field, owner, priority};
+use crate::ball::{LOST, UNMET};
+use crate::field::{Field, wins_by};
 use crate::finding::find_lasso;
-use crate::lasso::Lasso;
-use crate::ranks::{count_on, places_backward};
 use calculus::form::Normal;
-use calculus::node::Kind;
 use evidence::draft::Draft;
 use evidence::evidence::Evidence;
 use evidence::verdict::Verdict;
 use evidence::verify::verify;
 use game::graph::Game;
+use game::list::List;
 use game::player::Player;
 use lts::Lts;
 use measures::table::Settled;
-use std::alloc::{AllocError, Global};
+use std::alloc::Global;
 use text::Memory;
 use witness::one_way::goes_one_way;
 use witness::part::{has_root, root_vertex};
 
-// A mark for each vertex, true where the player wins it.
-fn won_by(
-    alloc: Global,
-    game: &Game,
-    settled: &Settled,
-    player: Player,
-) -> Result<Vec<bool>, AllocError>
+// For each vertex that the player wins that it is unmet, and for the others that they are lost.
+fn unmet_places(alloc: Global, game: &Game, settled: &Settled, player: Player) -> List<u32>
     requires { settled.now.game ≡ game.now }
 {
-    let mut won = Vec::with_capacity(alloc, game.vertices() as usize)?;
+    let mut places = List::none(alloc);
     for v in 0..game.vertices() {
-        let is_odds = settled.is_top(v);
-        won.push(is_odds == (player == Player::Odd))?;
+        let is_won = settled.is_top(v) == (player == Player::Odd);
+        places.push(if is_won { UNMET } else { LOST });
     }
-    Ok(won)
+    places
 }
 
-// A mark for each node, true where it is a modality.
-fn modal_nodes(alloc: Global, normal: &Normal) -> Result<Vec<bool>, AllocError> {
-    let mut modal = Vec::new(alloc);
-    for node in normal.nodes() {
-        modal.push(matches!(node.kind, Kind::Dia(_, _) | Kind::Box(_, _)))?;
+// The rank of a vertex of this priority, of the rank of the one to which it leads: counts of lower priorities begin anew, and one of its own rises.
+fn count_on(player: Player, priority: u8, rank: &mut [u32]) {
+    let below = match player {
+        Player::Even => priority / 2,
+        Player::Odd => priority.saturating_add(1) / 2,
+    };
+    let kept = rank.len().saturating_sub(below as usize);
+    for count in rank.iter_mut().skip(kept) {
+        *count = 0;
     }
-    Ok(modal)
-}
-
-// Puts a vertex of a lasso into its evidence, with the rank that follows from that of the next.
-fn put_place(
-    game: &Game,
-    lasso: &Lasso,
-    draft: &mut Draft,
-    player: Player,
-    rank: &mut [u32],
-    place: usize,
-)
-    requires same { draft.old.game ≡ game.now }
-    requires rank { length rank.old ≡ length (counted draft.old.evidence.player draft.old.game) }
-    ensures same { draft.new.game ≡ game.now }
-    ensures player { draft.new.evidence.player ≡ draft.old.evidence.player }
-    ensures rank { length rank.new ≡ length rank.old }
-{
-    let v = lasso.vertices.get_or(place, 0);
-    let next = lasso.after(place);
-    count_on(player, priority(game, v), rank);
-    if v < game.vertices() {
-        let is_own = owner(game, v) == player && next < game.vertices();
-        draft.put(v, is_own.then_some(next), rank);
+    if !wins_by(player, priority) {
+        if let Some(count) = rank.get_mut(kept.saturating_sub(1)) {
+            *count = count.saturating_add(1);
+        }
     }
 }
 
-// Evidence of a player with the vertices of a lasso, and no others.
+// Evidence of a player with the vertices of a play, and no others. The first ones are a loop that is gone round twice: their ranks are right the second time
+// that they are put.
 fn evidence_of(
     alloc: Global,
     game: &Game,
-    lasso: &Lasso,
+    play_back: &[u32],
     player: Player,
 ) -> Result<Evidence, Memory>
     ensures { IfOk result (λ e. e.game ≡ game.now) }
 {
     let mut draft = Draft::new(alloc, game, player)?;
     let mut rank = vec![in alloc; 0; draft.width()]?;
-    let places = places_backward(alloc, game, lasso)?;
-    for place in places.as_slice() {
-        put_place(
-            game,
-            lasso,
-            &mut draft,
-            player,
-            rank.as_mut_slice(),
-            *place as usize,
-        );
+    let mut next = u32::MAX;
+    for v in play_back {
+        let v = *v;
+        if v < game.vertices() {
+            count_on(player, game.priority(v), rank.as_mut_slice());
+            let is_own = game.owner(v) == player && next < game.vertices();
+            draft.put(v, is_own.then_some(next), rank.as_slice());
+        }
+        next = v;
     }
     Ok(draft.into_evidence())
-}
-
-// A lasso from a vertex in what the player wins.
-fn lasso_from(
-    alloc: Global,
-    normal: &Normal,
-    game: &Game,
-    settled: &Settled,
-    player: Player,
-    root: u32,
-) -> Result<Option<Lasso>, AllocError>
-    requires { settled.now.game ≡ game.now }
-{
-    let won = won_by(alloc, game, settled, player)?;
-    let modal = modal_nodes(alloc, normal)?;
-    let field = Field {
-        game,
-        player,
-        won: &won,
-        modal: &modal,
-    };
-    find_lasso(alloc, field, root)
 }
 
 /// Good evidence of the player who wins the vertex of the initial state with the root, where a play is found there that goes one way from each of its
@@ -147,10 +103,17 @@ pub fn one_way_evidence(
     } else {
         Player::Even
     };
-    let Some(lasso) = lasso_from(alloc, normal, game, settled, player, root)? else {
-        return Ok(None);
+    let field = Field {
+        game,
+        nodes: normal.nodes(),
+        player,
     };
-    let evidence = evidence_of(alloc, game, &lasso, player)?;
+    let places = unmet_places(alloc, game, settled, player);
+    let play_back = find_lasso(alloc, field, places, root)?;
+    if play_back.is_empty() {
+        return Ok(None);
+    }
+    let evidence = evidence_of(alloc, game, play_back.as_slice(), player)?;
     if has_root(system, normal, game, &evidence)
         && goes_one_way(game, &evidence)
         && verify(game, &evidence) == Verdict::Good
