@@ -1,7 +1,7 @@
 // The nodes of a normal form at the states of a system.
 
 use crate::edges::{Edges, Kinds};
-use crate::part::NodeComponent;
+use crate::search::Vertex;
 use calculus::form::Normal;
 use calculus::node::Kind;
 use game::list::List;
@@ -9,17 +9,17 @@ use std::alloc::Global;
 use systems::system::Lts;
 
 /// No node.
-pub(crate) const NONE: usize = usize::MAX;
+pub(crate) const NONE: usize = NO_CHILD as usize;
 
-/// What a node is, without its children.
+const NO_CHILD: u32 = u32::MAX;
+
+/// What a node is, but for its owner.
 #[derive(Clone, Copy, PartialEq, Eq)]
 pub(crate) enum SearchNodeKind {
-    True,
-    False,
-    And,
-    Or,
-    Dia,
-    Box,
+    /// Of two children at the same state, or of none.
+    Junction,
+    /// Of one child, at successors.
+    Modality,
     Binder,
     Variable,
 }
@@ -27,11 +27,11 @@ pub(crate) enum SearchNodeKind {
 /// A node with its children. One that has a single child has it twice, and a variable has its binder.
 #[derive(Clone, Copy)]
 pub(crate) struct SearchNode {
+    pub(crate) number: usize,
     pub(crate) shape: SearchNodeKind,
+    /// Whether Odd chooses. Where there is one child it doesn't matter.
+    pub(crate) is_odds: bool,
     pub(crate) priority: u32,
-    pub(crate) left: usize,
-    pub(crate) right: usize,
-    /// Its children, with a variable's binder in the place of the variable, since it is gained with it.
     pub(crate) first: usize,
     pub(crate) second: usize,
     /// The kinds of its labels.
@@ -44,10 +44,10 @@ pub(crate) struct SearchNode {
 
 // No node that is of use.
 const NOTHING: SearchNode = SearchNode {
-    shape: SearchNodeKind::True,
+    number: NONE,
+    shape: SearchNodeKind::Junction,
+    is_odds: false,
     priority: 0,
-    left: NONE,
-    right: NONE,
     first: NONE,
     second: NONE,
     mask: 0,
@@ -57,30 +57,40 @@ const NOTHING: SearchNode = SearchNode {
 
 impl SearchNode {
     fn of(kind: &Kind) -> Self {
-        let (shape, left, right) = match kind {
-            Kind::True => (SearchNodeKind::True, NONE, NONE),
-            Kind::False => (SearchNodeKind::False, NONE, NONE),
-            Kind::And(left, right) => (SearchNodeKind::And, *left as usize, *right as usize),
-            Kind::Or(left, right) => (SearchNodeKind::Or, *left as usize, *right as usize),
-            Kind::Dia(_, child) => (SearchNodeKind::Dia, *child as usize, *child as usize),
-            Kind::Box(_, child) => (SearchNodeKind::Box, *child as usize, *child as usize),
-            Kind::Mu(child) | Kind::Nu(child) => {
-                (SearchNodeKind::Binder, *child as usize, *child as usize)
-            }
-            Kind::Var(binder) => (SearchNodeKind::Variable, *binder as usize, *binder as usize),
+        let (shape, is_odds, first, second) = match kind {
+            Kind::True => (SearchNodeKind::Junction, true, NO_CHILD, NO_CHILD),
+            Kind::False => (SearchNodeKind::Junction, false, NO_CHILD, NO_CHILD),
+            Kind::And(left, right) => (SearchNodeKind::Junction, true, *left, *right),
+            Kind::Or(left, right) => (SearchNodeKind::Junction, false, *left, *right),
+            Kind::Dia(_, child) => (SearchNodeKind::Modality, false, *child, *child),
+            Kind::Box(_, child) => (SearchNodeKind::Modality, true, *child, *child),
+            Kind::Mu(child) | Kind::Nu(child) => (SearchNodeKind::Binder, false, *child, *child),
+            Kind::Var(binder) => (SearchNodeKind::Variable, false, *binder, *binder),
         };
         SearchNode {
             shape,
-            left,
-            right,
+            is_odds,
+            first: first as usize,
+            second: second as usize,
             ..NOTHING
         }
     }
 
-    pub(crate) fn is_modal(&self) -> bool {
-        self.shape == SearchNodeKind::Dia || self.shape == SearchNodeKind::Box
+    /// The node at a state.
+    #[inline(always)]
+    pub(crate) fn at(&self, state: usize) -> Vertex {
+        Vertex {
+            node: self.number,
+            state,
+        }
     }
 
+    #[inline(always)]
+    pub(crate) fn is_modal(&self) -> bool {
+        self.shape == SearchNodeKind::Modality
+    }
+
+    #[inline(always)]
     pub(crate) fn is_binder(&self) -> bool {
         self.shape == SearchNodeKind::Binder
     }
@@ -97,44 +107,38 @@ pub(crate) struct Arena {
     // For each node where the list of those that have it for a child starts.
     starts: List<usize>,
     parents: List<usize>,
-    are_kinds_known: bool,
 }
 
 impl Arena {
-    pub(crate) fn of(alloc: Global, lts: &Lts, form: &Normal, is_exact: bool) -> Self {
-        let kinds = Kinds::of(alloc, lts, form);
-        let forth = Edges::forth(alloc, lts, &kinds);
+    /// The nodes of a normal form at the states of a system, if labels are of few kinds and there is memory for all.
+    pub(crate) fn of(alloc: Global, lts: &Lts, form: &Normal, is_exact: bool) -> Option<Self> {
+        let kinds = Kinds::of(alloc, lts, form)?;
         let mut arena = Arena {
             states: lts.states() as usize,
             is_exact,
-            forth,
+            forth: Edges::forth(alloc, lts, &kinds),
             nodes: List::none(alloc),
             starts: List::filled(alloc, 1, 0),
             parents: List::none(alloc),
-            are_kinds_known: kinds.are_known(),
         };
         arena.enter_nodes(form, &kinds);
         arena.find_roots(alloc);
         for number in (0..arena.count()).rev() {
             arena.find_height(number);
-            arena.replace_variables(number);
         }
         for number in 0..arena.count() {
             arena.enter_parents(number);
         }
-        arena
+        if arena.is_whole() { Some(arena) } else { None }
     }
 
-    /// Whether labels are of few kinds, and there was memory for all.
-    pub(crate) fn is_whole(&self) -> bool {
-        self.forth.is_whole()
-            && self.nodes.is_whole()
-            && self.starts.is_whole()
-            && self.parents.is_whole()
-            && self.are_kinds_known
+    fn is_whole(&self) -> bool {
+        let are_parents = self.starts.is_whole() && self.parents.is_whole();
+        are_parents && self.nodes.is_whole() && self.forth.is_whole()
     }
 
     /// How many nodes there are.
+    #[inline(always)]
     pub(crate) fn count(&self) -> usize {
         self.nodes.len()
     }
@@ -144,17 +148,22 @@ impl Arena {
         self.nodes.get_or(number, NOTHING)
     }
 
-    /// The node itself, or the binder of a variable.
+    /// Whether a node's binder takes its place. Where the least measures are wanted variables count, too.
+    pub(crate) fn is_replaced(&self, node: SearchNode) -> bool {
+        node.shape == SearchNodeKind::Variable && !self.is_exact
+    }
+
+    /// The node in whose place this one stands: itself, or its binder.
     pub(crate) fn real(&self, number: usize) -> usize {
         let node = self.node(number);
-        if node.shape == SearchNodeKind::Variable {
-            node.left
+        if self.is_replaced(node) {
+            node.first
         } else {
             number
         }
     }
 
-    /// The nodes that have this one for a child, itself or by its variables.
+    /// The nodes that have this one for a child.
     #[inline(always)]
     pub(crate) fn parents(&self, number: usize) -> &[usize] {
         let start = self.starts.get_or(number, 0);
@@ -164,12 +173,14 @@ impl Arena {
 
     fn enter_nodes(&mut self, form: &Normal, kinds: &Kinds) {
         for node in form.nodes() {
-            let own = SearchNode {
+            let number = self.nodes.len();
+            self.nodes.push(SearchNode {
+                number,
                 priority: node.priority,
-                mask: kinds.mask(self.nodes.len()),
+                mask: kinds.mask(number),
+                root: number,
                 ..SearchNode::of(&node.kind)
-            };
-            self.nodes.push(own);
+            });
         }
     }
 
@@ -178,81 +189,57 @@ impl Arena {
         let mut reached = List::filled(alloc, self.count(), NONE);
         for number in (0..self.count()).rev() {
             let node = self.node(number);
-            let inside = reached.get_or(node.left, NONE);
             let least = match node.shape {
-                SearchNodeKind::Variable => node.left,
-                _ => inside.min(reached.get_or(node.right, NONE)),
+                SearchNodeKind::Variable => node.first,
+                _ => reached
+                    .get_or(node.first, NONE)
+                    .min(reached.get_or(node.second, NONE)),
             };
             reached.set(number, least);
         }
         for number in 0..self.count() {
-            self.find_root(&reached, number);
-        }
-    }
-
-    // Gives a node, and then its children, their components.
-    fn find_root(&mut self, reached: &List<usize>, number: usize) {
-        let mut node = self.node(number);
-        if node.root == NONE {
-            node.root = number;
-            self.nodes.set(number, node);
-        }
-        if node.shape == SearchNodeKind::Variable {
-            return;
-        }
-        for child in [node.left, node.right] {
-            if reached.get_or(child, NONE) < child {
-                let root = node.root;
-                let below = self.node(child);
-                self.nodes.set(child, SearchNode { root, ..below });
+            let node = self.node(number);
+            for child in [node.first, node.second] {
+                let mut below = self.node(child);
+                if child > number && reached.get_or(child, NONE) < child {
+                    below.root = node.root;
+                    self.nodes.set(child, below);
+                }
             }
         }
     }
 
+    // Finds a node's height, and has binders take the place of variables among its children.
     fn find_height(&mut self, number: usize) {
-        let node = self.node(number);
-        let height = match node.shape {
-            SearchNodeKind::Binder | SearchNodeKind::True | SearchNodeKind::False => 0,
+        let mut node = self.node(number);
+        node.height = match node.shape {
+            SearchNodeKind::Binder => 0,
             SearchNodeKind::Variable => 1,
             _ => self
-                .height_over(node, node.left)
-                .max(self.height_over(node, node.right)),
+                .height_over(node, node.first)
+                .max(self.height_over(node, node.second)),
         };
-        self.nodes.set(number, SearchNode { height, ..node });
+        node.first = self.real(node.first);
+        node.second = self.real(node.second);
+        self.nodes.set(number, node);
     }
 
     fn height_over(&self, node: SearchNode, child: usize) -> u32 {
         let below = self.node(child);
-        if below.root == node.root {
+        if child == NONE {
+            0
+        } else if below.root == node.root {
             below.height.saturating_add(1)
         } else {
             1
         }
     }
 
-    // Puts binders in the place of variables, but where each step counts.
-    fn replace_variables(&mut self, number: usize) {
-        let node = self.node(number);
-        let (mut first, mut second) = (node.left, node.right);
-        if !NodeComponent::of(self, node.root).counts_steps {
-            let is_variable = node.shape == SearchNodeKind::Variable;
-            first = if is_variable { NONE } else { self.real(first) };
-            second = if is_variable { NONE } else { self.real(second) };
-        }
-        self.nodes.set(
-            number,
-            SearchNode {
-                first,
-                second,
-                ..node
-            },
-        );
-    }
-
     fn enter_parents(&mut self, number: usize) {
         for parent in 0..self.count() {
             let node = self.node(parent);
-            if node.first == number || node.second == number {
+            let is_parent = node.first == number || node.second == number;
+            if is_parent && !self.is_replaced(node) {
                 self.parents.push(parent);
             }
         }

@@ -1,16 +1,13 @@
 // The innermost block, by levels: a binder comes one level after its child, any other node with the children by which it is gained.
 
-use crate::arena::{Arena, SearchNode, SearchNodeKind};
+use crate::arena::SearchNode;
 use crate::edges::{state_of, takes};
 use crate::exits::NEVER;
 use crate::search::{ArenaSearch, Vertex};
-use crate::sets::{bit, count, states_of, word_of};
+use crate::sets::{bit, count, states_of};
 use std::mem;
 
 // Levels of fewer vertices are found vertex by vertex.
-const FEW: usize = 100;
-
-// From fewer states none are looked for by the edges that lead to them.
 const MANY: usize = 2_000;
 
 // How many times as long it takes to go back from a state as to look whether another one leads there.
@@ -27,193 +24,141 @@ pub(crate) enum Change {
     Return,
 }
 
-impl ArenaSearch {
+impl ArenaSearch<'_> {
     /// Finds what the player of the innermost block gains, with the levels.
-    pub(crate) fn climb(&mut self, arena: &Arena) {
-        self.open(arena);
+    pub(crate) fn climb(&mut self) {
+        self.is_walking = false;
         let mut level = 0_u32;
         for _ in 0..u64::MAX {
-            self.gather_all(arena, level == 0);
-            let found = self.settle_all(arena, level);
+            let found = if self.is_walking {
+                self.walk(level)
+            } else {
+                self.fill(level)
+            };
             self.pay(found.saturating_add(1));
-            if found < FEW && !self.can_spare(0) {
-                level = self.walk(arena, level);
-            }
-            let next = self.next_level(level);
+            let next = if found > 0 {
+                level.saturating_add(1)
+            } else {
+                self.next_entry()
+            };
             if self.left == 0 || next == NEVER {
                 break;
             }
             level = next;
-            self.begin_level(level);
         }
         self.most = self.most.max(level);
     }
 
-    // Level zero begins with what is held, given, or comes from outside.
-    fn open(&mut self, arena: &Arena) {
-        let nodes = self.order.len();
-        self.pay(nodes.saturating_mul(arena.states) / 16);
-        for place in 0..self.order.len() {
-            let number = self.order.get_or(place, 0);
-            let node = arena.node(number);
-            self.open_node(node, number);
+    // A level of all states at once. The answer is how much the next one gains.
+    fn fill(&mut self, level: u32) -> usize {
+        self.enter_exits(level);
+        self.looks = 0;
+        if level > 0 {
+            self.take_all(level, true);
         }
-        for place in 0..self.exits.len() {
-            let number = self.exits.get_or(place, 0);
-            for word in 0..self.gain.width() {
-                let bits = self.exit(0, number, word);
-                self.gain.set_word(number, word, bits);
-                self.delta.add(number, word, bits);
+        self.take_all(level, false);
+        let mut found = 0_usize;
+        for place in 0..self.order.len() {
+            let node = self.member(place);
+            if self.part.is_late(node) {
+                found = found.wrapping_add(self.look(node, level));
             }
-            self.expect_exit(arena, number);
+        }
+        for number in 0..self.news.len() {
+            self.news.set(number, false);
+        }
+        let is_over = found == 0 && self.waiting.is_empty();
+        self.is_walking = !is_over && !self.is_dense(found);
+        if self.is_walking {
+            self.list_next();
+        }
+        found
+    }
+
+    // Gains in this level what was found in the one before of the nodes that are late, or what is found now of the others.
+    fn take_all(&mut self, level: u32, are_late: bool) {
+        for place in 0..self.order.len() {
+            let node = self.member(place);
+            if self.part.is_late(node) == are_late && (are_late || self.look(node, level) > 0) {
+                self.take(node.number, level);
+            }
         }
     }
 
-    fn open_node(&mut self, node: SearchNode, number: usize) {
-        let own = self.part.block(node);
-        let is_all = match node.shape {
-            SearchNodeKind::True => self.part.is_evens(0),
-            SearchNodeKind::False => !self.part.is_evens(0),
-            _ => false,
-        };
+    // Whether it takes less time to look at all states for the next level than to go back from what it gains. Edges back are made once that has taken long.
+    fn is_dense(&mut self, found: usize) -> bool {
+        let is_dense = found > MANY && found.saturating_mul(BACK) > self.looks;
+        let cost = self.looks.saturating_add(self.gain.width());
+        if is_dense || !self.back.is_empty() || cost > self.spare {
+            return is_dense;
+        }
+        self.spare = self.spare.saturating_sub(cost);
+        true
+    }
+
+    // Finds the states at which a node is gained by what its children are, and isn't yet. The answer is how many there are. In the first level one that
+    // waits for all successors is gained where there are none, too.
+    fn look(&mut self, node: SearchNode, level: u32) -> usize {
+        let is_new = self.news.get_or(node.first, false) || self.news.get_or(node.second, false);
+        let are_ends = level == 0 && node.is_modal() && !self.part.wants_one(node);
+        if self.part.block(node) > 0 || !is_new && !are_ends {
+            return 0;
+        }
+        let mut found = 0_usize;
         for word in 0..self.gain.width() {
-            let bits = if is_all {
-                self.gain.all(word)
-            } else if own == 0 {
-                self.given(0, number, word)
-            } else {
-                self.held(0, own, number, word)
-            };
-            self.gain.set_word(number, word, bits);
-            self.delta.add(number, word, bits);
+            let bits = self.wanted(node, word);
+            self.next.set_word(node.number, word, bits);
+            found = found.wrapping_add(count(bits));
         }
-        self.cursors.clear(number);
+        found
     }
 
-    // What all nodes gain by the new states of their children.
-    fn gather_all(&mut self, arena: &Arena, is_first: bool) {
-        for place in 0..self.order.len() {
-            let number = self.order.get_or(place, 0);
-            let node = arena.node(number);
-            if self.part.block(node) > 0 || node.first >= self.nodes {
-                continue;
-            }
-            if node.is_modal() {
-                self.gather_steps(arena, number, node, is_first);
-            } else {
-                self.gather(number, node, node.first, node.second);
-                self.gather(number, node, node.second, node.first);
-            }
+    fn wanted(&mut self, node: SearchNode, word: usize) -> u64 {
+        let rest = self.rest(node.number, word);
+        if node.is_modal() {
+            return self.pulled(node, word, rest);
         }
-    }
-
-    // What a node gains by the new states of a child, where it has another one.
-    fn gather(&mut self, number: usize, node: SearchNode, child: usize, other: usize) {
-        let wants_one = self.part.wants_one(node);
-        for place in 0..self.delta.count(child) {
-            let word = self.delta.touched(child, place);
-            let mut bits = self.delta.word(child, word) & !self.gain.word(number, word);
-            if !wants_one {
-                bits &= self.gain.word(other, word);
-            }
-            self.find(number, node, word, bits);
-        }
-    }
-
-    // A node is gained at these states: in this level, or, as a binder, in the next one.
-    #[inline(always)]
-    fn find(&mut self, number: usize, node: SearchNode, word: usize, bits: u64) {
-        if self.part.is_late(node) {
-            self.next.add(number, word, bits);
+        let first = self.gain.word(node.first, word);
+        let second = self.gain.word(node.second, word);
+        if self.part.wants_one(node) {
+            rest & (first | second)
         } else {
-            self.gain.add(number, word, bits);
-            self.delta.add(number, word, bits);
+            rest & first & second
         }
-    }
-
-    // What a modality gains by the new states of its child. In the first level one that waits for all successors is gained where there are none, too.
-    fn gather_steps(&mut self, arena: &Arena, number: usize, node: SearchNode, is_first: bool) {
-        let few = self.delta.size(node.first);
-        let rest = self.rest_of(number);
-        let is_dense = few > MANY && few.saturating_mul(BACK) > rest;
-        let are_ends = is_first && !self.part.wants_one(node);
-        if is_dense || are_ends || is_first && few > 0 {
-            self.pull(arena, number, node);
-        } else if few > 0 && self.can_spare(rest) {
-            let cost = rest.saturating_add(self.gain.width());
-            self.spare = self.spare.saturating_sub(cost);
-            self.pull(arena, number, node);
-        } else if few > 0 {
-            self.push(arena, number, node);
-        }
-    }
-
-    // Whether so many states can be looked at instead of edges back, which it would take longer to make.
-    fn can_spare(&self, states: usize) -> bool {
-        self.back.is_empty() && states.saturating_add(self.gain.width()) <= self.spare
     }
 
     // The states of a node that may be gained yet: what the player of the next block has gained before was lost for good.
     #[inline(always)]
     fn rest(&self, number: usize, word: usize) -> u64 {
-        let gained = self.gain.word(number, word);
-        self.gain.all(word) & !gained & !self.lost_word(number, word)
-    }
-
-    #[inline(always)]
-    fn lost_word(&self, number: usize, word: usize) -> u64 {
+        let mut gained = self.gain.word(number, word);
         if self.part.blocks > 1 {
-            self.gain.word(self.row(1, number), word)
-        } else {
-            0
+            gained |= self.gain.word(self.row(1, number), word);
         }
+        self.gain.all(word) & !gained
     }
 
-    fn rest_of(&self, number: usize) -> usize {
-        let mut rest = 0_usize;
-        for word in 0..self.gain.width() {
-            rest = rest.wrapping_add(count(self.rest(number, word)));
-        }
-        rest
-    }
-
-    // From the states that aren't gained yet on to their successors.
-    fn pull(&mut self, arena: &Arena, number: usize, node: SearchNode) {
-        for word in 0..self.gain.width() {
-            let rest = self.rest(number, word);
-            let bits = self.pulled(arena, number, node, word, rest);
-            self.find(number, node, word, bits);
-        }
-    }
-
-    fn pulled(
-        &mut self,
-        arena: &Arena,
-        number: usize,
-        node: SearchNode,
-        word: usize,
-        rest: u64,
-    ) -> u64 {
+    // From states that aren't gained yet on to their successors.
+    fn pulled(&mut self, node: SearchNode, word: usize, rest: u64) -> u64 {
         let wants_one = self.part.wants_one(node);
         let mut bits = 0;
         for state in states_of(word, rest) {
             let is_gained = if wants_one {
-                self.has_one(arena, node, state)
+                self.has_one(node, state)
             } else {
-                self.has_all(arena, number, node, state)
+                self.has_all(node, state)
             };
             if is_gained {
                 bits |= bit(state);
             }
         }
+        self.looks = self.looks.wrapping_add(count(rest & !bits));
         bits
     }
 
-    // Whether a successor is new.
     #[inline(always)]
-    fn has_one(&self, arena: &Arena, node: SearchNode, state: usize) -> bool {
-        for edge in arena.forth.row(state, 0) {
-            if takes(node.mask, *edge) && self.delta.has(node.first, state_of(*edge)) {
+    fn has_one(&self, node: SearchNode, state: usize) -> bool {
+        for edge in self.arena.forth.row(state, 0) {
+            if takes(node.mask, *edge) && self.gain.has(node.first, state_of(*edge)) {
                 return true;
             }
         }
@@ -222,12 +167,13 @@ impl ArenaSearch {
 
     // Whether all successors are gained. If not, the first one that isn't is noted.
     #[inline(always)]
-    fn has_all(&mut self, arena: &Arena, number: usize, node: SearchNode, state: usize) -> bool {
-        let first = self.cursors.get(number, state);
+    fn has_all(&mut self, node: SearchNode, state: usize) -> bool {
+        let arena = self.arena;
+        let first = self.cursors.get(node.number, state);
         let mut passed = first;
         for edge in arena.forth.row(state, first) {
             if takes(node.mask, *edge) && !self.gain.has(node.first, state_of(*edge)) {
-                self.cursors.set(number, state, passed);
+                self.cursors.set(node.number, state, passed);
                 return false;
             }
             passed = passed.wrapping_add(1);
@@ -235,217 +181,119 @@ impl ArenaSearch {
         true
     }
 
-    // From new states back to their predecessors.
-    fn push(&mut self, arena: &Arena, number: usize, node: SearchNode) {
-        self.want_back(arena);
-        for place in 0..self.delta.count(node.first) {
-            let word = self.delta.touched(node.first, place);
-            let bits = self.delta.word(node.first, word);
-            for state in states_of(word, bits) {
-                self.carry_back(arena, number, node, state, Change::Gain);
-            }
-        }
-    }
-
-    // Gives what is new its level, and has nothing new any more. The answer is how much there was.
-    fn settle_all(&mut self, arena: &Arena, level: u32) -> usize {
-        let mut found = 0_usize;
-        for place in 0..self.order.len() {
-            let number = self.order.get_or(place, 0);
-            if self.part.block(arena.node(number)) == 0 {
-                found = found.wrapping_add(self.settle_node(number, level));
-            }
-            self.delta.clear(number);
-        }
-        for place in 0..self.exits.len() {
-            self.delta.clear(self.exits.get_or(place, 0));
-        }
-        found
-    }
-
-    fn settle_node(&mut self, number: usize, level: u32) -> usize {
-        let mut found = 0_usize;
+    // Gains what was found of a node.
+    fn take(&mut self, number: usize, level: u32) {
         let counted = self.leveled(level);
-        for place in 0..self.delta.count(number) {
-            let word = self.delta.touched(number, place);
-            let bits = self.delta.word(number, word);
-            found = found.wrapping_add(count(bits));
-            for state in states_of(word, bits & !self.kept(number, word)) {
-                self.count(number, state, counted);
+        for word in 0..self.gain.width() {
+            let bits = self.next.taken(number, word);
+            if bits != 0 {
+                self.gain.add(number, word, bits);
+                self.news.set(number, true);
+                self.count_all(number, word, bits, counted);
             }
         }
-        found
     }
 
-    // The next level in which something is gained.
-    fn next_level(&self, level: u32) -> u32 {
+    // Lists what is found for the next level.
+    fn list_next(&mut self) {
         for place in 0..self.order.len() {
-            if self.next.count(self.order.get_or(place, 0)) > 0 {
-                return level.saturating_add(1);
+            let node = self.order.get_or(place, 0);
+            for word in 0..self.gain.width() {
+                for state in states_of(word, self.next.taken(node, word)) {
+                    self.later.push(Vertex { node, state });
+                }
             }
         }
-        self.next_entry()
     }
 
-    // What is gained in this level, or comes from outside, is new.
-    fn begin_level(&mut self, level: u32) {
-        for place in 0..self.order.len() {
-            let number = self.order.get_or(place, 0);
-            self.begin_node_level(number);
-        }
-        self.enter_exits(level)
-    }
-
-    fn begin_node_level(&mut self, number: usize) {
-        for place in 0..self.next.count(number) {
-            let word = self.next.touched(number, place);
-            let bits = self.next.word(number, word);
-            self.gain.add(number, word, bits);
-            self.delta.add(number, word, bits);
-        }
-        self.next.clear(number);
-    }
-
-    // Levels of few vertices, as long as they follow each other. The answer is the last of them.
-    fn walk(&mut self, arena: &Arena, mut level: u32) -> u32 {
-        self.is_walking = true;
-        for place in 0..self.order.len() {
-            let number = self.order.get_or(place, 0);
-            self.list_next(number);
-        }
-        for _ in 0..u64::MAX {
-            let count = self.later.len();
-            let next = level.saturating_add(1);
-            if count == 0 || count > 2 * FEW || self.left == 0 || self.next_entry() <= next {
-                break;
-            }
-            level = next;
-            mem::swap(&mut self.todo, &mut self.later);
-            self.want_back(arena);
-            self.walk_level(arena, level);
-        }
-        self.is_walking = false;
-        for _ in 0..u64::MAX {
-            let Some(vertex) = self.later.pop() else {
-                break;
-            };
-            self.next.put(vertex.node, vertex.state);
-        }
-        level
-    }
-
-    fn list_next(&mut self, number: usize) {
-        for place in 0..self.next.count(number) {
-            let word = self.next.touched(number, place);
-            for state in states_of(word, self.next.word(number, word)) {
-                self.later.push(Vertex {
-                    node: number,
-                    state,
-                });
-            }
-        }
-        self.next.clear(number);
-    }
-
-    fn walk_level(&mut self, arena: &Arena, level: u32) {
+    // A level of few vertices, from each of them back to those that lead to it. The answer is how much the next one gains.
+    fn walk(&mut self, level: u32) -> usize {
+        self.want_back();
+        mem::swap(&mut self.todo, &mut self.later);
+        self.enter_exits(level);
         for _ in 0..u64::MAX {
             let Some(vertex) = self.todo.pop() else {
                 break;
             };
             if !self.is_done(vertex) {
-                self.left = self.left.saturating_sub(1);
                 self.settle(vertex, level);
-                self.carry(arena, vertex, Change::Gain);
+                self.carry(vertex, Change::Gain);
             }
+        }
+        let found = self.later.len();
+        if found > MANY && self.is_dense(found) {
+            self.is_walking = false;
+            for _ in 0..found {
+                self.unlist();
+            }
+        }
+        found
+    }
+
+    fn unlist(&mut self) {
+        if let Some(Vertex { node, state }) = self.later.pop() {
+            self.next.put(node, state);
         }
     }
 
     /// Carries a change of a vertex on to those of the innermost block that lead to it.
     #[inline(always)]
-    pub(crate) fn carry(&mut self, arena: &Arena, vertex: Vertex, change: Change) {
+    pub(crate) fn carry(&mut self, vertex: Vertex, change: Change) {
+        let arena = self.arena;
         for parent in arena.parents(vertex.node) {
             let node = arena.node(*parent);
-            if self.part.has(node) && self.part.block(node) == 0 {
+            if self.part.is_inner(node) {
                 if node.is_modal() {
-                    self.carry_back(arena, *parent, node, vertex.state, change);
+                    self.carry_back(node, vertex.state, change);
                 } else {
-                    self.meet(arena, *parent, node, vertex.state, change);
+                    self.meet(node, vertex.state, change);
                 }
             }
         }
     }
 
     #[inline(always)]
-    fn carry_back(
-        &mut self,
-        arena: &Arena,
-        number: usize,
-        node: SearchNode,
-        state: usize,
-        change: Change,
-    ) {
+    fn carry_back(&mut self, node: SearchNode, state: usize, change: Change) {
         for place in self.back.places(state) {
             let edge = self.back.edge(place);
             if takes(node.mask, edge) {
-                self.meet(arena, number, node, state_of(edge), change);
+                self.meet(node, state_of(edge), change);
             }
         }
     }
 
     #[inline(always)]
-    fn meet(
-        &mut self,
-        arena: &Arena,
-        number: usize,
-        node: SearchNode,
-        state: usize,
-        change: Change,
-    ) {
-        let is_done = self.gain.has(number, state);
+    fn meet(&mut self, node: SearchNode, state: usize, change: Change) {
+        let is_done = self.gain.has(node.number, state);
         match change {
-            Change::Gain => {
-                if !is_done && self.is_ready(arena, number, node, state) {
-                    self.reach(number, node, state);
-                }
-            }
-            Change::Loss => {
-                if is_done {
-                    self.lose(arena, number, node, state);
-                }
-            }
-            Change::Return => {
-                if !is_done {
-                    self.wait(arena, number, node, state);
-                }
-            }
+            Change::Gain if !is_done => self.reach(node, state),
+            Change::Loss if is_done => self.lose(node, state),
+            Change::Return if !is_done => self.wait(node, state),
+            _ => (),
         }
     }
 
     // Whether a node that has a new child or successor is gained by it.
     #[inline(always)]
-    fn is_ready(&mut self, arena: &Arena, number: usize, node: SearchNode, state: usize) -> bool {
+    fn is_ready(&mut self, node: SearchNode, state: usize) -> bool {
         if self.part.wants_one(node) {
             true
         } else if node.is_modal() {
-            let is_lost = self.lost_word(number, word_of(state)) & bit(state) != 0;
-            !is_lost && self.has_all(arena, number, node, state)
+            self.has_all(node, state)
         } else {
             self.gain.has(node.first, state) && self.gain.has(node.second, state)
         }
     }
 
     #[inline(always)]
-    fn reach(&mut self, number: usize, node: SearchNode, state: usize) {
-        let vertex = Vertex {
-            node: number,
-            state,
-        };
-        if !self.is_walking {
-            self.find(number, node, word_of(state), bit(state));
-        } else if self.part.is_late(node) {
-            self.later.push(vertex);
-        } else {
-            self.todo.push(vertex);
+    fn reach(&mut self, node: SearchNode, state: usize) {
+        if self.is_ready(node, state) {
+            let list = if self.part.is_late(node) {
+                &mut self.later
+            } else {
+                &mut self.todo
+            };
+            list.push(node.at(state));
         }
     }
 }

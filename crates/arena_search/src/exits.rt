@@ -1,30 +1,25 @@
 // Nodes outside a component. Where no measures are wanted all that is won there is gained at once; else at the level, or in the round, that its
 // measure says.
 
-use crate::arena::Arena;
-use crate::search::ArenaSearch;
-use crate::sets::{bit, states_of, word_of};
+use crate::arena::NONE;
+use crate::climb::Change;
+use crate::search::{ArenaSearch, Vertex};
+use crate::sets::{bit, states_of};
 use std::cmp::Reverse;
 
 /// No level.
 pub(crate) const NEVER: u32 = u32::MAX;
 
-impl ArenaSearch {
+impl ArenaSearch<'_> {
     /// Enters a node outside, and finds whether what is won there counts in the component.
-    pub(crate) fn enter_exit(&mut self, arena: &Arena, number: usize) {
+    pub(crate) fn enter_exit(&mut self, number: usize) {
         self.exits.push(number);
-        let is_timed = arena.is_exact && self.counts_here(arena, number);
-        self.are_timed.set(number, is_timed);
-        self.timed = self.timed.saturating_add(usize::from(is_timed));
-    }
-
-    fn counts_here(&self, arena: &Arena, number: usize) -> bool {
-        for state in 0..arena.states {
-            if self.counted_here(number, state) != 0 {
-                return true;
+        for state in 0..self.arena.states {
+            if self.are_timed || !self.part.is_cyclic || !self.arena.is_exact {
+                return;
             }
+            self.are_timed = self.counted_here(number, state) != 0;
         }
-        false
     }
 
     // What the measure of a vertex counts in the fields of the component's blocks.
@@ -70,16 +65,10 @@ impl ArenaSearch {
     pub(crate) fn exit(&self, block: usize, number: usize, word: usize) -> u64 {
         let odd = self.odd.word(number, word);
         let all = self.gain.all(word);
-        if self.are_timed.get_or(number, false) {
-            self.entered(block, number, word, all)
-        } else if self.part.is_evens(block) {
-            all & !odd
-        } else {
-            odd
+        let won = if self.part.is_evens(block) { !odd } else { odd };
+        if !self.are_timed {
+            return won & all;
         }
-    }
-
-    fn entered(&self, block: usize, number: usize, word: usize, all: u64) -> u64 {
         let round = self.rounds.get_or(block, 0);
         let mut bits = 0;
         for state in states_of(word, all) {
@@ -90,15 +79,19 @@ impl ArenaSearch {
         bits
     }
 
-    /// What the player of the innermost block gains of a node outside after the first level waits for its own.
-    pub(crate) fn expect_exit(&mut self, arena: &Arena, number: usize) {
-        if !self.are_timed.get_or(number, false) {
-            return;
+    /// The player of the innermost block begins with what it has of a node outside. What it gains after the first level waits for its own.
+    pub(crate) fn begin_exit(&mut self, node: usize) {
+        self.news.set(node, false);
+        for word in 0..self.gain.width() {
+            let bits = self.exit(0, node, word);
+            self.begin_word(node, node, word, bits);
         }
-        for state in 0..arena.states {
-            let level = self.entry(0, number, state);
-            if level > 0 && level != NEVER {
-                self.is_whole &= self.waiting.push((Reverse(level), number, state)).is_ok();
+        if self.are_timed {
+            for state in 0..self.arena.states {
+                let level = self.entry(0, node, state);
+                if level > 0 {
+                    self.await_level(level, Vertex { node, state });
+                }
             }
         }
     }
@@ -117,36 +110,38 @@ impl ArenaSearch {
             if self.next_entry() != level {
                 break;
             }
-            let Some((_, number, state)) = self.waiting.pop() else {
-                break;
-            };
-            self.gain.add(number, word_of(state), bit(state));
-            self.delta.put(number, state);
+            if let Some((_, node, state)) = self.waiting.pop() {
+                self.enter_one(Vertex { node, state });
+            }
+        }
+    }
+
+    // From the next level on those that lead to it are gained by it, or at once where all states are looked at.
+    fn enter_one(&mut self, vertex: Vertex) {
+        self.gain.put(vertex.node, vertex.state);
+        if self.is_walking {
+            self.carry(vertex, Change::Gain);
+        } else {
+            self.news.set(vertex.node, true);
         }
     }
 
     /// Where a round changes nothing, the next one is that in which something comes from outside. The answer is whether there is one.
-    pub(crate) fn wait_for_exits(&mut self, arena: &Arena, block: usize) -> bool {
-        if self.timed == 0 {
-            return false;
-        }
+    pub(crate) fn wait_for_exits(&mut self, block: usize, round: u32) -> bool {
         let mut next = NEVER;
-        for place in 0..self.exits.len() {
-            let number = self.exits.get_or(place, 0);
-            if self.are_timed.get_or(number, false) {
-                next = next.min(self.entry_after(arena, block, number));
+        if self.are_timed {
+            for place in 0..self.exits.len() {
+                let number = self.exits.get_or(place, NONE);
+                next = next.min(self.entry_after(block, number, round));
             }
         }
-        if next != NEVER {
-            self.rounds.set(block, next);
-        }
+        self.rounds.set(block, next);
         next != NEVER
     }
 
-    fn entry_after(&self, arena: &Arena, block: usize, number: usize) -> u32 {
-        let round = self.rounds.get_or(block, 0);
+    fn entry_after(&self, block: usize, number: usize, round: u32) -> u32 {
         let mut next = NEVER;
-        for state in 0..arena.states {
+        for state in 0..self.arena.states {
             let entry = self.entry(block, number, state);
             if entry > round {
                 next = next.min(entry);

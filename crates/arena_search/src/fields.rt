@@ -1,7 +1,6 @@
 // Where the counts of a ranking stand in its numbers.
 
 use crate::arena::{Arena, SearchNode};
-use crate::part::NodeComponent;
 
 /// How many priorities there are at most.
 pub(crate) const PRIORITIES: u32 = 32;
@@ -55,13 +54,10 @@ impl Fields {
     pub(crate) fn step(&self, priority: u32) -> CountingRule {
         let above = self.above(priority);
         let is_counted = power(priority) & u64::from(self.priorities) != 0;
+        let unit = power(self.place(priority));
         CountingRule {
             above,
-            unit: if is_counted {
-                power(self.place(priority))
-            } else {
-                0
-            },
+            unit: if is_counted { unit } else { 0 },
             field: above & !self.above(priority.wrapping_add(1)),
         }
     }
@@ -103,13 +99,15 @@ pub(crate) struct Layout {
 }
 
 impl Layout {
-    /// The fields that these nodes want: for a ranking those of the blocks, and for measures those of all priorities.
+    /// The fields that these nodes want: for a ranking those of the binders' priorities, and for measures those of all.
     pub(crate) fn of(arena: &Arena, is_wide: bool) -> Self {
         let (mut priorities, mut height) = (0, 0);
         for number in 0..arena.count() {
             let node = arena.node(number);
             height = node.height.max(height);
-            priorities |= counted(arena, node, number);
+            if arena.is_exact || node.is_binder() {
+                priorities |= 1_u32.checked_shl(node.priority).unwrap_or(0);
+            }
         }
         let group = bits(u32::try_from(arena.count()).unwrap_or(u32::MAX));
         if arena.is_exact {
@@ -144,6 +142,18 @@ impl Layout {
         }
     }
 
+    /// How far a count is shifted to the left in a number, which has more below it.
+    pub(crate) fn raised(&self) -> u32 {
+        if self.is_wide { 0 } else { self.low }
+    }
+
+    /// What numbers have above all fields: that of a component, which is less where it is further down.
+    pub(crate) fn group(&self, arena: &Arena, node: SearchNode) -> u64 {
+        let group = arena.count().saturating_sub(node.root) as u64;
+        let place = u64::BITS.saturating_sub(self.group);
+        group.checked_shl(place).unwrap_or(0)
+    }
+
     /// The fields of a player.
     pub(crate) fn fields(&self, is_odd: bool) -> Fields {
         if is_odd { self.odd } else { self.even }
@@ -163,17 +173,4 @@ impl Layout {
     pub(crate) fn holds(&self, count: u32) -> bool {
         bits(count) <= self.even.width
     }
-}
-
-// The priorities that are counted for the sake of a node, as bits: in a ranking those of the blocks of a component, for the node that it begins with.
-fn counted(arena: &Arena, node: SearchNode, number: usize) -> u32 {
-    let part = NodeComponent::of(arena, number);
-    let bits = if arena.is_exact {
-        power(node.priority)
-    } else if node.root == number && part.is_cyclic {
-        power(part.priority(part.blocks)).wrapping_sub(power(part.least))
-    } else {
-        0
-    };
-    (bits & u64::from(u32::MAX)) as u32
 }

@@ -46,10 +46,16 @@ impl NodeComponent {
         node.root == self.root
     }
 
+    /// Whether a node is in the innermost block, as any is but binders of the others.
+    #[inline(always)]
+    pub(crate) fn is_inner(&self, node: SearchNode) -> bool {
+        self.has(node) && self.block(node) == 0
+    }
+
     /// Whether a node of the innermost block is gained one level after the children by which it is.
     #[inline(always)]
     pub(crate) fn is_late(&self, node: SearchNode) -> bool {
-        node.is_binder() || self.counts_steps
+        self.counts_steps || self.is_cyclic && node.is_binder()
     }
 
     /// The priority of a block.
@@ -76,10 +82,7 @@ impl NodeComponent {
     /// Whether the player of the innermost block gains a node by one child or successor, and not only by all.
     #[inline(always)]
     pub(crate) fn wants_one(&self, node: SearchNode) -> bool {
-        match node.shape {
-            SearchNodeKind::Or | SearchNodeKind::Dia => self.is_evens(0),
-            SearchNodeKind::And | SearchNodeKind::Box => !self.is_evens(0),
-            _ => true,
-        }
+        let has_one = node.is_binder() || node.shape == SearchNodeKind::Variable;
+        has_one || node.is_odds != self.is_evens(0)
     }
 }

@@ -26,21 +26,19 @@ fn place(number: usize) -> u32 {
     u32::try_from(number).unwrap_or(u32::MAX)
 }
 
-impl ArenaSearch {
+impl ArenaSearch<'_> {
     // The numbers of a node, above the number of its component.
-    fn column(&self, arena: &Arena, number: usize) -> Column {
-        let node = arena.node(number);
-        let real = arena.real(number);
-        let group = self.nodes.saturating_sub(node.root) as u64;
-        let base = group.checked_shl(u64::BITS.saturating_sub(self.layout.group));
-        let even = base.unwrap_or(0);
+    fn column(&self, number: usize) -> Column {
+        let node = self.arena.node(number);
+        let real = self.arena.real(number);
+        let even = self.layout.group(self.arena, node);
         let height = u64::from(node.height).wrapping_mul(2).wrapping_add(MARK);
         let odd = even.wrapping_add(height);
         let size = self.odd.size(real);
         let is_constant = !self.counts.has(real) && !self.words.has(real);
         if is_constant && size == 0 {
             Column::Same(even)
-        } else if is_constant && size == arena.states {
+        } else if is_constant && size == self.arena.states {
             Column::Same(odd)
         } else {
             Column::Won(Marked {
@@ -55,55 +53,34 @@ impl ArenaSearch {
     }
 
     // How many of the lowest bits don't count for a player at each priority. At priority 0 heights count.
-    fn shifts(&self, alloc: Global, fields: Fields) -> List<u32> {
-        let below = if self.layout.is_wide {
-            0
-        } else {
-            self.layout.low
-        };
-        let mut shifts = List::filled(alloc, 1, 1);
+    fn shifts(&self, fields: Fields) -> List<u32> {
+        let mut shifts = List::filled(self.alloc, 1, 1);
         for priority in 1..PRIORITIES {
-            shifts.push(fields.place(priority).saturating_add(below));
+            shifts.push(fields.place(priority).saturating_add(self.layout.raised()));
         }
         shifts
     }
 }
 
-// The ranking that was found. There is none where something wasn't.
-fn ranking_of(alloc: Global, arena: &Arena, search: ArenaSearch) -> Option<GuessedRanking> {
-    let mut nodes = List::none(alloc);
-    for number in 0..arena.count() {
-        nodes.push(search.column(arena, number));
-    }
-    let evens = search.shifts(alloc, search.layout.even);
-    let odds = search.shifts(alloc, search.layout.odd);
-    let is_whole = nodes.is_whole() && evens.is_whole() && odds.is_whole() && search.is_whole();
-    let ArenaSearch {
-        odd,
-        counts,
-        words,
-        ..
-    } = search;
-    let ranking = GuessedRanking {
-        columns: Columns {
-            nodes: nodes.into_items(),
-            marks: odd.into_words(),
-            counts: counts.into_lists(),
-            words: words.into_lists(),
-        },
-        even_shifts: evens.into_items(),
-        odd_shifts: odds.into_items(),
-    };
-    if is_whole { Some(ranking) } else { None }
-}
-
 /// Guesses who wins each node of a normal form at each state of a system, as a ranking. There is none where that takes too long, where
 /// its counts don't fit their fields, or for want of memory.
 pub fn ranking(alloc: Global, lts: &Lts, form: &Normal) -> Option<GuessedRanking> {
-    let arena = Arena::of(alloc, lts, form, false);
-    if !arena.is_whole() {
-        return None;
+    let arena = Arena::of(alloc, lts, form, false)?;
+    let search = ArenaSearch::of(alloc, &arena)?;
+    let mut nodes = List::none(alloc);
+    for number in 0..arena.count() {
+        nodes.push(search.column(number));
     }
-    let search = ArenaSearch::of(alloc, &arena);
-    ranking_of(alloc, &arena, search)
+    let even_shifts = search.shifts(search.layout.even).into_items();
+    let odd_shifts = search.shifts(search.layout.odd).into_items();
+    Some(GuessedRanking {
+        columns: Columns {
+            nodes: nodes.into_items(),
+            marks: search.odd.into_words(),
+            counts: search.counts.into_lists(),
+            words: search.words.into_lists(),
+        },
+        even_shifts,
+        odd_shifts,
+    })
 }

@@ -1,11 +1,11 @@
 // What is found of a component: the innermost block by levels, the others by rounds.
 
-use crate::arena::{Arena, SearchNode, SearchNodeKind};
+use crate::arena::{Arena, NONE, SearchNode};
 use crate::edges::Edges;
 use crate::fields::Layout;
 use crate::mend::Later;
 use crate::part::NodeComponent;
-use crate::sets::{Fronts, Sets, bit, states_of, word_of};
+use crate::sets::{Sets, bit, states_of, word_of};
 use crate::table::NumberLists;
 use game::list::List;
 use std::alloc::Global;
@@ -21,84 +21,100 @@ pub(crate) struct Vertex {
     pub(crate) state: usize,
 }
 
+/// No vertex.
+pub(crate) const NOWHERE: Vertex = Vertex {
+    node: NONE,
+    state: 0,
+};
+
 /// The search, with the component at hand.
 #[derive(Drop)]
-pub(crate) struct ArenaSearch {
-    alloc: Global,
+pub(crate) struct ArenaSearch<'a> {
+    pub(crate) alloc: Global,
+    pub(crate) arena: &'a Arena,
     pub(crate) layout: Layout,
     pub(crate) part: NodeComponent,
     /// The edges back, once they are wanted.
     pub(crate) back: Edges,
-    pub(crate) nodes: usize,
-    /// The nodes of the component but variables, each after those below it.
+    /// The nodes of the component that no others stand for, each after those below it.
     pub(crate) order: List<usize>,
-    /// The nodes outside to which they lead.
+    /// The nodes outside to which they lead, and whether the measures there count in the component.
     pub(crate) exits: List<usize>,
-    /// For each block the round at hand, and one in the field of rounds, or of levels, where these count.
+    pub(crate) are_timed: bool,
+    /// The lowest bit of the field of levels, and for each block the round at hand.
+    pub(crate) place: u32,
     pub(crate) rounds: List<u32>,
-    units: List<u64>,
     /// For each block and node the states that the player of the block has gained.
     pub(crate) gain: Sets,
-    /// What was gained in the level at hand, and what is gained in the next one.
-    pub(crate) delta: Fronts,
-    pub(crate) next: Fronts,
+    /// For each node the states that are gained next, and whether any were gained in the level at hand.
+    pub(crate) next: Sets,
+    pub(crate) news: List<bool>,
     /// For each node the states that Odd wins.
     pub(crate) odd: Sets,
-    /// How many lists are between those of a node for a block and for the next one: none where a node has one list for all blocks.
-    pub(crate) stride: usize,
+    // How many lists are between those of a node for a block and for the next one.
+    stride: usize,
     /// For each node what was counted when it was gained last, by the player who gained it: the level or the rounds of the block, with what the player's
     /// blocks inside it count. One of both is in use, by the layout.
     pub(crate) counts: NumberLists<u32>,
     pub(crate) words: NumberLists<u64>,
     /// For each modality that waits for all successors how many of the first ones need no more look.
     pub(crate) cursors: NumberLists<u32>,
-    /// Whether vertices are looked at one by one.
+    /// Whether vertices are looked at one by one: those of the level at hand, and of the next one.
     pub(crate) is_walking: bool,
-    /// Those of the level at hand, and of the next one.
     pub(crate) todo: List<Vertex>,
     pub(crate) later: List<Vertex>,
     /// Binders that the player of the innermost block has lost, and what that player has lost by them.
     pub(crate) lost: List<Vertex>,
     pub(crate) gone: List<Vertex>,
     pub(crate) waiting: BinaryHeap<Later>,
-    /// More lost vertices than so many aren't mended.
-    pub(crate) many_lost: usize,
     /// The greatest count.
     pub(crate) most: u32,
-    /// How many more vertices may be looked at.
+    /// How many more vertices may be looked at: none once there is no memory.
     pub(crate) left: u64,
-    /// How many states may be looked at before edges back are made.
+    /// How many states were looked at in the level at hand, and may be before edges back are made.
+    pub(crate) looks: usize,
     pub(crate) spare: usize,
-    /// The lowest bit of the field in which levels are counted.
-    place: u32,
-    /// For each node whether it is outside and what is won there counts, and how many such nodes there are.
-    pub(crate) are_timed: List<bool>,
-    pub(crate) timed: usize,
-    pub(crate) is_whole: bool,
 }
 
-impl ArenaSearch {
-    fn new(alloc: Global, arena: &Arena, layout: Layout) -> Self {
+impl<'a> ArenaSearch<'a> {
+    /// What is found of all nodes, component by component, if counts fit their fields and it doesn't take too long.
+    pub(crate) fn of(alloc: Global, arena: &'a Arena) -> Option<Self> {
+        for is_wide in [false, true] {
+            let mut search = ArenaSearch::new(alloc, arena, Layout::of(arena, is_wide));
+            search.solve_all();
+            if search.left == 0 || !search.is_whole() {
+                return None;
+            }
+            if search.layout.holds(search.most) {
+                return Some(search);
+            }
+        }
+        None
+    }
+
+    fn new(alloc: Global, arena: &'a Arena, layout: Layout) -> Self {
         let (nodes, states) = (arena.count(), arena.states);
         let mut blocks = 2;
         for root in 0..nodes {
             blocks = NodeComponent::of(arena, root).blocks.max(blocks);
         }
+        let rows = blocks.saturating_mul(nodes);
         let stride = if arena.is_exact { nodes } else { 0 };
         let lists = blocks.saturating_mul(stride).saturating_add(nodes);
         ArenaSearch {
             alloc,
+            arena,
             layout,
             part: NodeComponent::of(arena, 0),
             back: Edges::none(alloc),
-            nodes,
             order: List::none(alloc),
             exits: List::none(alloc),
+            are_timed: false,
+            place: 0,
             rounds: List::filled(alloc, blocks, 0),
-            units: List::filled(alloc, blocks, 0),
-            gain: Sets::new(alloc, blocks.saturating_mul(nodes), states),
-            delta: Fronts::new(alloc, nodes, states),
-            next: Fronts::new(alloc, nodes, states),
+            gain: Sets::new(alloc, rows, states),
+            next: Sets::new(alloc, nodes, states),
+            news: List::filled(alloc, nodes, false),
             odd: Sets::new(alloc, nodes, states),
             stride,
             counts: NumberLists::new(alloc, lists, states, 0),
@@ -110,48 +126,43 @@ impl ArenaSearch {
             lost: List::none(alloc),
             gone: List::none(alloc),
             waiting: BinaryHeap::new(alloc),
-            many_lost: (states / 16).saturating_add(64),
             most: 0,
             left: BUDGET,
+            looks: 0,
             spare: arena.forth.count() / 4,
-            place: 0,
-            are_timed: List::filled(alloc, nodes, false),
-            timed: 0,
-            is_whole: true,
         }
     }
 
-    /// Whether there was memory for all, and all was found.
-    pub(crate) fn is_whole(&self) -> bool {
-        let are_sets = self.gain.is_whole() && self.odd.is_whole();
-        let are_fronts = self.delta.is_whole() && self.next.is_whole();
+    fn is_whole(&self) -> bool {
+        let are_sets = self.gain.is_whole() && self.next.is_whole() && self.odd.is_whole();
         let are_tables = self.counts.is_whole() && self.words.is_whole() && self.cursors.is_whole();
-        let are_lists = self.todo.is_whole() && self.later.is_whole() && self.lost.is_whole();
-        let are_few = self.order.is_whole() && self.exits.is_whole() && self.rounds.is_whole();
-        let are_counts = self.left > 0 && self.layout.holds(self.most);
-        are_sets
-            && are_fronts
-            && are_tables
-            && are_lists
-            && are_few
-            && are_counts
-            && self.gone.is_whole()
-            && self.back.is_whole()
-            && self.are_timed.is_whole()
-            && self.units.is_whole()
-            && self.is_whole
+        let are_nodes = self.order.is_whole() && self.exits.is_whole() && self.news.is_whole();
+        let are_steps = self.todo.is_whole() && self.later.is_whole() && self.lost.is_whole();
+        let are_others = self.gone.is_whole() && self.back.is_whole() && self.rounds.is_whole();
+        are_sets && are_tables && are_nodes && are_steps && are_others
+    }
+
+    /// So many vertices were looked at.
+    pub(crate) fn pay(&mut self, vertices: usize) {
+        self.left = self.left.saturating_sub(vertices as u64);
     }
 
     /// The row of a node in a block.
     #[inline(always)]
     pub(crate) fn row(&self, block: usize, node: usize) -> usize {
-        block.wrapping_mul(self.nodes).wrapping_add(node)
+        block.wrapping_mul(self.arena.count()).wrapping_add(node)
     }
 
-    /// The list of a node for a block.
+    /// The list of a node for a block: one for all blocks, but where the least measures are wanted.
     #[inline(always)]
     pub(crate) fn list(&self, block: usize, node: usize) -> usize {
         block.wrapping_mul(self.stride).wrapping_add(node)
+    }
+
+    /// The list of the measures of a node, where these are wanted.
+    #[inline(always)]
+    pub(crate) fn measures(&self, node: usize) -> usize {
+        self.list(self.rounds.len(), node)
     }
 
     /// What a list counts at a state.
@@ -174,153 +185,141 @@ impl ArenaSearch {
         }
     }
 
-    /// The list of the measures of a node, where these are wanted.
-    pub(crate) fn measures(&self, node: usize) -> usize {
-        self.list(self.rounds.len(), node)
-    }
-
-    /// A level, in its field.
-    #[inline(always)]
-    pub(crate) fn leveled(&self, level: u32) -> u64 {
-        self.units.get_or(0, 0).wrapping_mul(u64::from(level))
-    }
-
-    /// The level of a vertex that was gained by its level.
-    #[inline(always)]
-    pub(crate) fn level_at(&self, node: usize, state: usize) -> u32 {
-        let level = self.counted(node, state) >> (self.place % u64::BITS);
-        (level & u64::from(u32::MAX)) as u32
-    }
-
-    /// The states of which a list for all blocks keeps what was counted in another block, where they are gained at the level zero.
-    #[inline(always)]
-    pub(crate) fn kept(&self, number: usize, word: usize) -> u64 {
-        if self.stride == 0 {
-            self.given(0, number, word)
-        } else {
-            0
+    pub(crate) fn count_all(&mut self, list: usize, word: usize, bits: u64, counted: u64) {
+        for state in states_of(word, bits) {
+            self.count(list, state, counted);
         }
-    }
-
-    /// So many vertices were looked at.
-    pub(crate) fn pay(&mut self, vertices: usize) {
-        self.left = self.left.saturating_sub(vertices as u64);
     }
 
     /// Has the edges back at hand.
-    pub(crate) fn want_back(&mut self, arena: &Arena) {
+    pub(crate) fn want_back(&mut self) {
         if self.back.is_empty() {
-            self.back = arena.forth.reversed(self.alloc);
+            self.back = self.arena.forth.reversed(self.alloc);
         }
     }
 
-    /// What is found of all nodes, component by component.
-    pub(crate) fn of(alloc: Global, arena: &Arena) -> Self {
-        let search = ArenaSearch::with(alloc, arena, Layout::of(arena, false));
-        if search.layout.holds(search.most) {
-            return search;
-        }
-        drop(search);
-        ArenaSearch::with(alloc, arena, Layout::of(arena, true))
+    /// A node of the component, by its place among them.
+    pub(crate) fn member(&self, place: usize) -> SearchNode {
+        self.arena.node(self.order.get_or(place, NONE))
     }
 
-    fn with(alloc: Global, arena: &Arena, layout: Layout) -> Self {
-        let mut search = ArenaSearch::new(alloc, arena, layout);
-        for root in (0..arena.count()).rev() {
-            if arena.node(root).root == root && search.left > 0 {
-                search.solve(arena, root);
+    fn solve_all(&mut self) {
+        for root in (0..self.arena.count()).rev() {
+            if self.arena.node(root).root == root && self.left > 0 {
+                self.solve(root);
             }
         }
-        search
     }
 
     // Finds who wins the nodes of the component with this root, where it is known of those below it.
-    fn solve(&mut self, arena: &Arena, root: usize) {
-        self.part = NodeComponent::of(arena, root);
+    fn solve(&mut self, root: usize) {
+        self.part = NodeComponent::of(self.arena, root);
         self.place = self.layout.place(self.part.least);
-        for block in 0..self.part.blocks {
-            let unit = self.layout.unit(self.part.priority(block));
-            self.units
-                .set(block, if self.part.is_cyclic { unit } else { 0 });
-        }
         self.order.clear();
         self.exits.clear();
-        self.timed = 0;
-        for number in (root..self.nodes).rev() {
-            self.enter(arena, number);
+        self.are_timed = false;
+        for number in (root..self.arena.count()).rev() {
+            let node = self.arena.node(number);
+            self.enter(node);
         }
-        self.play(arena);
+        self.play();
         for place in 0..self.order.len() {
-            let number = self.order.get_or(place, 0);
-            self.conclude(number);
+            self.conclude(self.member(place).number);
         }
-        if arena.is_exact {
-            self.lift_part(arena);
+        if self.arena.is_exact {
+            self.lift_part();
         }
     }
 
     // Enters a node of the component, and its children that are outside.
-    fn enter(&mut self, arena: &Arena, number: usize) {
-        let node = arena.node(number);
-        let is_variable = node.shape == SearchNodeKind::Variable && !self.part.counts_steps;
-        if !self.part.has(node) || is_variable {
+    fn enter(&mut self, node: SearchNode) {
+        if !self.part.has(node) || self.arena.is_replaced(node) {
             return;
         }
-        self.order.push(number);
+        self.order.push(node.number);
         self.most = self.most.max(node.height);
         for child in [node.first, node.second] {
-            if child < self.nodes && !self.part.has(arena.node(child)) {
-                self.enter_exit(arena, child);
+            if child != NONE && !self.part.has(self.arena.node(child)) {
+                self.enter_exit(child);
             }
         }
     }
 
     // Has rounds follow each other until no block goes on.
-    fn play(&mut self, arena: &Arena) {
-        self.begin(arena, self.part.blocks);
+    fn play(&mut self) {
+        let mut block = self.part.blocks;
         for _ in 0..u64::MAX {
-            self.climb(arena);
-            let block = self.close_rounds(arena);
+            self.begin(block);
+            self.climb();
+            block = self.close_rounds();
             if block >= self.part.blocks || self.left == 0 {
                 break;
             }
-            self.begin(arena, block);
         }
     }
 
     // Begins the blocks inside this one.
-    fn begin(&mut self, arena: &Arena, end: usize) {
-        for block in (1..end).rev() {
+    fn begin(&mut self, end: usize) {
+        let vertices = self.order.len().saturating_mul(self.arena.states);
+        self.pay(vertices / 16);
+        if !self.is_whole() {
+            self.left = 0;
+        }
+        for block in (0..end).rev() {
             self.rounds.set(block, 0);
             for place in 0..self.order.len() {
-                let number = self.order.get_or(place, 0);
-                if self.part.block(arena.node(number)) <= block {
-                    self.begin_node(block, number);
-                }
+                self.begin_node(block, self.member(place));
+            }
+        }
+        for place in 0..self.exits.len() {
+            let number = self.exits.get_or(place, NONE);
+            self.begin_exit(number);
+        }
+    }
+
+    // All that is gained before the first level is new in it.
+    fn begin_node(&mut self, block: usize, node: SearchNode) {
+        let SearchNode { number, first, .. } = node;
+        let own = self.part.block(node);
+        let row = self.row(block, number);
+        let is_won = first == NONE && !self.part.wants_one(node);
+        self.news.set(number, false);
+        self.cursors.clear(number);
+        for word in 0..self.gain.width() {
+            let bits = if own > block {
+                self.held(block, own, number, word)
+            } else if is_won {
+                self.gain.all(word)
+            } else {
+                self.given(block, number, word)
+            };
+            self.begin_word(row, number, word, bits);
+            if block == 0 && self.arena.is_exact {
+                self.count_all(number, word, bits, 0);
             }
         }
     }
 
-    fn begin_node(&mut self, block: usize, number: usize) {
-        for word in 0..self.gain.width() {
-            let bits = self.given(block, number, word);
-            let row = self.row(block, number);
-            self.gain.set_word(row, word, bits);
+    /// A node, or one outside, begins with these states.
+    pub(crate) fn begin_word(&mut self, row: usize, number: usize, word: usize, bits: u64) {
+        self.gain.set_word(row, word, bits);
+        if bits != 0 {
+            self.news.set(number, true);
         }
     }
 
     /// What a block's player has of a node before the block begins: what the next block of that player has gained.
     pub(crate) fn given(&self, block: usize, number: usize, word: usize) -> u64 {
-        if block.wrapping_add(2) < self.part.blocks {
-            self.gain
-                .word(self.row(block.wrapping_add(2), number), word)
+        let outer = block.wrapping_add(2);
+        if outer < self.part.blocks {
+            self.gain.word(self.row(outer, number), word)
         } else {
             0
         }
     }
 
-    /// What the player of a block has of a binder of a block further out.
-    pub(crate) fn held(&self, block: usize, own: usize, number: usize, word: usize) -> u64 {
+    // What the player of a block has of a node that the player of another one has gained.
+    fn held(&self, block: usize, own: usize, number: usize, word: usize) -> u64 {
         let gained = self.gain.word(self.row(own, number), word);
         if own % 2 == block % 2 {
             gained
@@ -330,22 +329,21 @@ impl ArenaSearch {
     }
 
     // What the player of a block has of a node once the blocks inside it have ended.
-    fn status(&self, node: SearchNode, block: usize, number: usize, word: usize) -> u64 {
-        if !self.part.has(node) {
-            return self.exit(block, number, word);
-        }
+    fn status(&self, node: SearchNode, block: usize, word: usize) -> u64 {
         let own = self.part.block(node);
-        if own < block {
-            self.held(block, block.wrapping_sub(1), number, word)
+        if !self.part.has(node) {
+            self.exit(block, node.number, word)
+        } else if own < block {
+            self.held(block, block.wrapping_sub(1), node.number, word)
         } else {
-            self.held(block, own, number, word)
+            self.held(block, own, node.number, word)
         }
     }
 
     // Ends the round of each block that is inside all others that go on. The answer is the first one that does, or how many blocks there are.
-    fn close_rounds(&mut self, arena: &Arena) -> usize {
+    fn close_rounds(&mut self) -> usize {
         for block in 1..self.part.blocks {
-            if self.close_round(arena, block) {
+            if self.close_round(block) {
                 return block;
             }
         }
@@ -353,95 +351,83 @@ impl ArenaSearch {
     }
 
     // What the player of the blocks inside hasn't gained is gained by that of the block. The answer is whether another round has to follow.
-    fn close_round(&mut self, arena: &Arena, block: usize) -> bool {
-        let round = self.rounds.get_or(block, 0);
-        self.pay(arena.states / 16);
+    fn close_round(&mut self, block: usize) -> bool {
+        self.pay(self.arena.states / 16);
         for place in 0..self.order.len() {
-            let number = self.order.get_or(place, 0);
-            let node = arena.node(number);
+            let node = self.member(place);
             let own = self.part.block(node);
             if own < block {
-                self.gain_rest(block, own, number, round);
+                self.gain_rest(block, node);
             } else if own == block {
-                self.find_fresh(arena, block, number, node.first);
+                self.find_fresh(block, node);
             }
         }
-        let round = round.saturating_add(1);
+        let round = self.rounds.get_or(block, 0);
+        self.rounds.set(block, round.saturating_add(1));
         self.lost.clear();
         for place in 0..self.order.len() {
-            let number = self.order.get_or(place, 0);
-            self.gain_fresh(block, number, round);
+            self.gain_fresh(block, self.member(place));
         }
         if self.lost.is_empty() {
-            return self.wait_for_exits(arena, block);
+            return self.wait_for_exits(block, round);
         }
-        self.rounds.set(block, round);
-        block > 1 || self.timed > 0 || self.mend_rounds(arena)
+        block > 1 || self.are_timed || self.mend_rounds()
     }
 
     // A block's player gains the states of a node that the other one hasn't gained inside.
-    fn gain_rest(&mut self, block: usize, own: usize, number: usize, round: u32) {
+    fn gain_rest(&mut self, block: usize, node: SearchNode) {
+        let row = self.row(block, node.number);
         for word in 0..self.gain.width() {
-            let rest = self.held(block, block.wrapping_sub(1), number, word);
-            let fresh = rest & !self.gain.word(self.row(block, number), word);
-            self.note(block, own, number, word, fresh, round);
+            let rest = self.held(block, block.wrapping_sub(1), node.number, word);
+            let fresh = rest & !self.gain.word(row, word);
+            self.note(block, node, word, fresh);
         }
     }
 
     // Finds the states of a binder that its block's player gains by the binder's child.
-    fn find_fresh(&mut self, arena: &Arena, block: usize, number: usize, child: usize) {
-        let node = arena.node(child);
+    fn find_fresh(&mut self, block: usize, node: SearchNode) {
+        let row = self.row(block, node.number);
+        let child = self.arena.node(node.first);
         for word in 0..self.gain.width() {
-            let status = self.status(node, block, child, word);
-            let fresh = status & !self.gain.word(self.row(block, number), word);
-            self.next.add(number, word, fresh);
+            let fresh = self.status(child, block, word) & !self.gain.word(row, word);
+            self.next.set_word(node.number, word, fresh);
         }
     }
 
     // A block's player gains these states, which that of the innermost block may lose.
-    fn gain_fresh(&mut self, block: usize, number: usize, round: u32) {
-        for place in 0..self.next.count(number) {
-            let word = self.next.touched(number, place);
-            let bits = self.next.word(number, word);
-            self.note(block, block, number, word, bits, round);
-            self.list_lost(number, word, bits);
+    fn gain_fresh(&mut self, block: usize, node: SearchNode) {
+        for word in 0..self.gain.width() {
+            let bits = self.next.taken(node.number, word);
+            self.note(block, node, word, bits);
+            self.list_lost(node.number, word, bits);
         }
-        self.next.clear(number);
     }
 
     // Lists what is lost, until there is so much of it that a climb has to follow.
     fn list_lost(&mut self, node: usize, word: usize, bits: u64) {
-        if self.lost.len() > self.many_lost {
-            return;
-        }
-        for state in states_of(word, bits) {
-            self.lost.push(Vertex { node, state });
+        if self.lost.len() <= self.many_lost() {
+            for state in states_of(word, bits) {
+                self.lost.push(Vertex { node, state });
+            }
         }
     }
 
-    /// A block's player gains these states of a node in a round. Inside of the node's own block nothing is counted.
-    pub(crate) fn note(
-        &mut self,
-        block: usize,
-        own: usize,
-        number: usize,
-        word: usize,
-        bits: u64,
-        round: u32,
-    ) {
+    /// A block's player gains these states of a node in the round at hand. Inside of the node's own block nothing is counted.
+    pub(crate) fn note(&mut self, block: usize, node: SearchNode, word: usize, bits: u64) {
         if bits == 0 {
             return;
         }
+        let round = self.rounds.get_or(block, 0);
         self.most = self.most.max(round);
-        let row = self.row(block, number);
+        let row = self.row(block, node.number);
         self.gain.add(row, word, bits);
-        let list = self.list(block, number);
-        let inner = self.list(block.wrapping_sub(2), number);
-        let is_inner = own.wrapping_add(2) <= block;
+        let list = self.list(block, node.number);
+        let inner = self.list(block.wrapping_sub(2), node.number);
+        let is_inner = self.part.block(node).wrapping_add(2) <= block;
         if is_inner && inner == list && round == 0 {
             return;
         }
-        let unit = self.units.get_or(block, 0);
+        let unit = self.layout.unit(self.part.priority(block));
         let rounds = unit.wrapping_mul(u64::from(round));
         for state in states_of(word, bits) {
             let counted = if is_inner {
@@ -456,13 +442,9 @@ impl ArenaSearch {
     // Keeps who wins a node.
     fn conclude(&mut self, number: usize) {
         let last = self.part.blocks.wrapping_sub(1);
+        let odds = usize::from(self.part.is_evens(0));
         for word in 0..self.gain.width() {
-            let gained = self.gain.word(self.row(last, number), word);
-            let odd = if self.part.is_evens(last) {
-                self.gain.all(word) & !gained
-            } else {
-                gained
-            };
+            let odd = self.held(odds, last, number, word);
             self.odd.set_word(number, word, odd);
         }
     }
@@ -470,6 +452,12 @@ impl ArenaSearch {
     #[inline(always)]
     pub(crate) fn is_done(&self, vertex: Vertex) -> bool {
         self.gain.has(vertex.node, vertex.state)
+    }
+
+    /// A level, in its field.
+    #[inline(always)]
+    pub(crate) fn leveled(&self, level: u32) -> u64 {
+        u64::from(level) << (self.place % u64::BITS)
     }
 
     /// The player of the innermost block gains a vertex at a level.

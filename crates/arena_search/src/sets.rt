@@ -134,17 +134,24 @@ impl Sets {
         self.words.set(place, self.words.get_or(place, 0) | bits)
     }
 
+    /// Takes the states of a word away, and answers them.
+    #[inline(always)]
+    pub(crate) fn taken(&mut self, row: usize, word: usize) -> u64 {
+        let bits = self.word(row, word);
+        if bits != 0 {
+            self.set_word(row, word, 0);
+        }
+        bits
+    }
+
     #[inline(always)]
     pub(crate) fn has(&self, row: usize, state: usize) -> bool {
         self.word(row, word_of(state)) & bit(state) != 0
     }
 
-    /// Makes a set another one.
-    pub(crate) fn copy(&mut self, row: usize, other: usize) {
-        for word in 0..self.width {
-            let bits = self.word(other, word);
-            self.set_word(row, word, bits);
-        }
+    #[inline(always)]
+    pub(crate) fn put(&mut self, row: usize, state: usize) {
+        self.add(row, word_of(state), bit(state))
     }
 
     pub(crate) fn remove(&mut self, row: usize, state: usize) {
@@ -159,95 +166,5 @@ impl Sets {
             size = size.wrapping_add(count(self.word(row, word)));
         }
         size
-    }
-}
-
-/// Sets of states of which those words are known that aren't empty.
-#[derive(Drop)]
-pub(crate) struct Fronts {
-    sets: Sets,
-    /// For each row its words, those that aren't empty first.
-    touched: List<u32>,
-    /// How many of them there are.
-    counts: List<usize>,
-}
-
-impl Fronts {
-    /// So many sets of no state.
-    pub(crate) fn new(alloc: Global, rows: usize, states: usize) -> Self {
-        let sets = Sets::new(alloc, rows, states);
-        Fronts {
-            touched: List::filled(alloc, rows.saturating_mul(sets.width), 0),
-            counts: List::filled(alloc, rows, 0),
-            sets,
-        }
-    }
-
-    /// Whether there was memory for all.
-    pub(crate) fn is_whole(&self) -> bool {
-        self.sets.is_whole() && self.touched.is_whole() && self.counts.is_whole()
-    }
-
-    /// How many words of a set aren't empty.
-    #[inline(always)]
-    pub(crate) fn count(&self, row: usize) -> usize {
-        self.counts.get_or(row, 0)
-    }
-
-    /// One of those words, by its place among them.
-    #[inline(always)]
-    pub(crate) fn touched(&self, row: usize, place: usize) -> usize {
-        self.touched.get_or(self.sets.place(row, place), 0) as usize
-    }
-
-    #[inline(always)]
-    pub(crate) fn word(&self, row: usize, word: usize) -> u64 {
-        self.sets.word(row, word)
-    }
-
-    #[inline(always)]
-    pub(crate) fn has(&self, row: usize, state: usize) -> bool {
-        self.sets.has(row, state)
-    }
-
-    /// Adds the states of a word.
-    #[inline(always)]
-    pub(crate) fn add(&mut self, row: usize, word: usize, bits: u64) {
-        if bits == 0 {
-            return;
-        }
-        let old = self.word(row, word);
-        if old == 0 {
-            let count = self.count(row);
-            let place = self.sets.place(row, count);
-            self.touched.set(place, u32::try_from(word).unwrap_or(0));
-            self.counts.set(row, count.wrapping_add(1));
-        }
-        self.sets.set_word(row, word, old | bits)
-    }
-
-    /// Adds a state.
-    #[inline(always)]
-    pub(crate) fn put(&mut self, row: usize, state: usize) {
-        self.add(row, word_of(state), bit(state))
-    }
-
-    /// How many states a set has.
-    pub(crate) fn size(&self, row: usize) -> usize {
-        let mut size = 0_usize;
-        for place in 0..self.count(row) {
-            let bits = self.word(row, self.touched(row, place));
-            size = size.wrapping_add(count(bits));
-        }
-        size
-    }
-
-    /// Takes all states away.
-    pub(crate) fn clear(&mut self, row: usize) {
-        for place in 0..self.count(row) {
-            let word = self.touched(row, place);
-            self.sets.set_word(row, word, 0);
-        }
-        self.counts.set(row, 0)
     }
 }
