@@ -3,10 +3,9 @@
 ghost use Rattle.std.specs.Prelude.{◌≡◌, ◌↔◌, ◌⊎◌, ◌∷◌, ◌++◌, [], IfErr, IfOk, IsTrue, codes, map, option_map};
 ghost use Rattle.std.specs.List.{list_any};
 ghost use Rattle.std.specs.String.{string_bytes};
-ghost use Rattle.command_line.specs.Refused.{IsLineError};
+ghost use Rattle.command_line.specs.Refused.{IfArguments, IsLineError};
 ghost use Rattle.command_line.specs.Named.{name_of};
 ghost use Rattle.command_line.specs.Names.{AreApart, IsApart, KeepsFiles, HasEnding, even_name, has_name, is_device, odd_name, read_beside};
-ghost use Rattle.command_line.specs.Refused.{IfArguments};
 
 use crate::request::{Command, Outputs};
 use requests::error::{ArgumentError, CheckFile, MuError};

@@ -7,8 +7,7 @@ ghost use Rattle.calculus.specs.Closed.{closed_formula};
 ghost use Rattle.calculus.specs.declared.priorities.Priorities.TheVariants.{Nested};
 ghost use Rattle.liftcore.specs.Core.{starting_core};
 ghost use Rattle.requests.specs.Causes.{HaveCauses};
-ghost use Rattle.requests.specs.Check.{AreSpelled, HasGame};
-ghost use Rattle.requests.specs.Check.{IsArenaOf};
+ghost use Rattle.requests.specs.Check.{AreSpelled, HasGame, IsArenaOf};
 ghost use Rattle.commands.specs.Replays.{AnswersReplay, GivesNoSchedule, Replays, nested_game};
 ghost use Rattle.commands.specs.Spelled.{IsScheduleOf};
 

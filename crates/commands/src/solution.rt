@@ -20,18 +20,15 @@ use requests::error::MuError;
 use requests::request::Options;
 use requests::solver::solve_seen;
 use std::alloc::Global;
-use std::sync::{Arc, Wait};
-use std::thread::Threads;
+use std::sync::Arc;
 use workers::gate::NoGate;
+use workers::runtime::Runtime;
 
 /// Evidence of all that each player wins: that which is guessed, where no board is named and it is found good; else that of the least progress tables.
 ///
 /// # Errors
 /// Those of `solve_seen`, U4 and E5.
-pub(crate) fn evidence_by<
-    O: Observer + Sync,
-    H: Threads + Wait + Clone + Copy + Drop + Send + Sync,
->(
+pub(crate) fn evidence_by<O: Observer + Sync, H: Runtime>(
     rt: &H,
     alloc: Global,
     game: &Arc<Game, Global>,
@@ -54,7 +51,7 @@ pub(crate) fn evidence_by<
 }
 
 /// That of the least progress tables.
-fn evidence_by_lifting<O: Observer + Sync, H: Threads + Wait + Clone + Copy + Drop + Send + Sync>(
+fn evidence_by_lifting<O: Observer + Sync, H: Runtime>(
     rt: &H,
     alloc: Global,
     game: &Arc<Game, Global>,

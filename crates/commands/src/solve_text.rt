@@ -28,10 +28,10 @@ use requests::error::MuError;
 use requests::request::{Options, Solve};
 use requests::solver::winners_by;
 use std::alloc::Global;
-use std::sync::{Arc, Wait};
-use std::thread::Threads;
+use std::sync::Arc;
 use text::sink::Sink;
 use text::source::Source;
+use workers::runtime::Runtime;
 
 /// Writes who wins each vertex of the game that a text spells, and how many of them Even wins. The answer is true. Over a board that the
 /// options name the workers lift; else evidence of both players is guessed and tested, and they lift where none is good.
@@ -39,7 +39,7 @@ use text::source::Source;
 /// # Errors
 /// Those of the reader, unchanged; T1 where the packed board is asked for and can't be had, and only there; T2, V1 and U4 for
 /// memory; W1 where a write failed. After a refusal that is not W1 nothing was written.
-pub fn solve_text<R: Source + Drop, W: Sink, H: Threads + Wait + Clone + Copy + Drop + Send + Sync>(
+pub fn solve_text<R: Source + Drop, W: Sink, H: Runtime>(
     rt: &H,
     alloc: Global,
     game: R,
@@ -54,7 +54,7 @@ pub fn solve_text<R: Source + Drop, W: Sink, H: Threads + Wait + Clone + Copy + 
 }
 
 /// Solves the game, and writes who wins each vertex. Nobody watches.
-fn solve_alone<W: Sink, H: Threads + Wait + Clone + Copy + Drop + Send + Sync>(
+fn solve_alone<W: Sink, H: Runtime>(
     rt: &H,
     alloc: Global,
     game: Game,
@@ -74,14 +74,7 @@ fn solve_alone<W: Sink, H: Threads + Wait + Clone + Copy + Drop + Send + Sync>(
 ///
 /// # Errors
 /// Those of `solve_text`, and E5 where evidence is asked for and memory is wanting for it.
-pub fn solve_asked<
-    R: Source + Drop,
-    E: Sink,
-    O: Sink,
-    W: Sink,
-    U: Observer + Sync,
-    H: Threads + Wait + Clone + Copy + Drop + Send + Sync,
->(
+pub fn solve_asked<R: Source + Drop, E: Sink, O: Sink, W: Sink, U: Observer + Sync, H: Runtime>(
     rt: &H,
     alloc: Global,
     request: &Solve<'_>,
@@ -100,13 +93,7 @@ pub fn solve_asked<
 }
 
 /// Solves the game that was read, and writes what is asked for.
-fn solve_read<
-    E: Sink,
-    O: Sink,
-    W: Sink,
-    U: Observer + Sync,
-    H: Threads + Wait + Clone + Copy + Drop + Send + Sync,
->(
+fn solve_read<E: Sink, O: Sink, W: Sink, U: Observer + Sync, H: Runtime>(
     rt: &H,
     alloc: Global,
     request: &Solve<'_>,
@@ -130,11 +117,7 @@ fn solve_read<
 }
 
 /// Solves the game, and writes who wins each vertex.
-fn solve_and_write<
-    W: Sink,
-    U: Observer + Sync,
-    H: Threads + Wait + Clone + Copy + Drop + Send + Sync,
->(
+fn solve_and_write<W: Sink, U: Observer + Sync, H: Runtime>(
     rt: &H,
     alloc: Global,
     game: &Arc<Game, Global>,
@@ -163,13 +146,7 @@ fn put_winners<W: Sink>(game: &Game, marks: &[bool], out: &mut W) -> Result<bool
 }
 
 /// Makes evidence of all that each player wins, and writes both texts of it and who wins each vertex.
-fn prove_and_write<
-    E: Sink,
-    O: Sink,
-    W: Sink,
-    U: Observer + Sync,
-    H: Threads + Wait + Clone + Copy + Drop + Send + Sync,
->(
+fn prove_and_write<E: Sink, O: Sink, W: Sink, U: Observer + Sync, H: Runtime>(
     rt: &H,
     alloc: Global,
     game: &Arc<Game, Global>,

@@ -23,8 +23,6 @@ pub(crate) fn are_winners(game: &Game, marks: &[bool])
     requires { MarksOf (length game.now.vertices) marks.now (Wins game.now) }
     ensures { AreWinners game.now marks.now }
 {
-    // For the proof alone: clauses name it.
-    let _ = marks;
     game.known();
     not_both_win();
     one_wins();

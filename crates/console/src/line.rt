@@ -15,6 +15,7 @@ use std::sync::{Arc, Condvar, Mutex, Wait};
 use std::thread::{JoinHandle, Threads};
 use std::time::{Clock, Duration, Instant};
 use std::{fmt, io, thread};
+use workers::runtime::Runtime;
 
 /// How long a run may be until it has a line, in milliseconds.
 const FIRST: u64 = 2000;
@@ -34,6 +35,11 @@ const WHOLE: &str = "\x1b[?7h\n";
 
 /// How many bytes are a megabyte.
 const MEGABYTE: u64 = 1_000_000;
+
+/// The handle by which a thread writes the line, some times a second.
+pub trait TimedRuntime: Runtime + Clock + 'static {}
+
+impl<R: Runtime + Clock + 'static> TimedRuntime for R {}
 
 /// What has become of the line.
 #[derive(Drop)]
@@ -147,10 +153,7 @@ pub struct ProgressLine<'a, T> {
     name: Option<&'a str>,
 }
 
-impl<'a, T: Threads + Wait + Clock + Clone + Copy + Drop + Send + Sync + 'static> ProgressLine<
-    'a,
-    T,
-> {
+impl<'a, T: TimedRuntime> ProgressLine<'a, T> {
     /// A line for a run that begins now. Where this is one of several, notes name its formula's file.
     pub fn new(
         rt: HostRuntime,
@@ -294,7 +297,7 @@ impl<T: Wait + Clock> Observer for ProgressLine<'_, T> {
     }
 }
 
-impl<T: Wait + Clock> Watcher for ProgressLine<'_, T> {
+impl<T: Wait + Clock + Sync> Watcher for ProgressLine<'_, T> {
     fn has_read(&self, system: &Lts, formula: &Closed) {
         if self.stats.are_told() {
             self.end_steps();

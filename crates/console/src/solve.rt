@@ -2,21 +2,18 @@
 
 use crate::files::Files;
 use crate::input::{CountedInput, open};
-use crate::line::ProgressLine;
+use crate::line::{ProgressLine, TimedRuntime};
 use crate::output::Output;
 use crate::refusal::Refusal;
 use crate::stats::{Activity, Stats};
 use commands::solve_text::solve_asked;
 use requests::request::Solve;
-use std::sync::Wait;
-use std::thread::Threads;
-use std::time::Clock;
 
 /// Writes the winners of a game, and evidence to the files that are asked for, and answers as `solve_asked` does.
 ///
 /// # Errors
 /// U2, and those of `solve_asked`.
-pub fn run_solve<T: Threads + Wait + Clock + Clone + Copy + Drop + Send + Sync + 'static>(
+pub fn run_solve<T: TimedRuntime>(
     rt: &HostRuntime,
     threads: &T,
     request: &Solve<'_>,
@@ -39,7 +36,7 @@ pub fn run_solve<T: Threads + Wait + Clock + Clone + Copy + Drop + Send + Sync +
 }
 
 /// Solves the game, and writes to the files that are asked for and to standard output.
-fn solve_to<T: Threads + Wait + Clock + Clone + Copy + Drop + Send + Sync + 'static>(
+fn solve_to<T: TimedRuntime>(
     rt: &HostRuntime,
     threads: &T,
     request: &Solve<'_>,

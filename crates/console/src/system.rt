@@ -1,22 +1,19 @@
 // The system that a table is of.
 
 use crate::input::{CountedInput, label_hasher, open};
-use crate::line::ProgressLine;
+use crate::line::{ProgressLine, TimedRuntime};
 use crate::refusal::Refusal;
 use crate::stats::Stats;
 use game::observer::{Observer, Stage};
 use lts::reader::read_aut;
 use lts::system::Lts;
 use requests::error::MuError;
-use std::sync::Wait;
-use std::thread::Threads;
-use std::time::Clock;
 
 /// The system of the file of this name. At a terminal a line says how much of it is read.
 ///
 /// # Errors
 /// U2, and those of `read_aut`.
-pub fn read_system<T: Threads + Wait + Clock + Clone + Copy + Drop + Send + Sync + 'static>(
+pub fn read_system<T: TimedRuntime>(
     rt: &HostRuntime,
     threads: &T,
     name: &str,

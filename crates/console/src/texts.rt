@@ -1,7 +1,7 @@
 // The commands `labels`, `normal`, `verify` and `replay`, which write to standard output alone.
 
 use crate::input::{label_hasher, open};
-use crate::line::ProgressLine;
+use crate::line::{ProgressLine, TimedRuntime};
 use crate::output::Output;
 use crate::refusal::Refusal;
 use crate::stats::Stats;
@@ -11,15 +11,12 @@ use commands::normal_text::normal_asked;
 use commands::replay_text::replay_asked;
 use commands::verify_text::{verify_both_text, verify_text};
 use requests::request::{Normalize, Replay, Verify};
-use std::sync::Wait;
-use std::thread::Threads;
-use std::time::Clock;
 
 /// Lists the labels of a system, and answers true. Both files are opened, in the order of the command line, before the first is read.
 ///
 /// # Errors
 /// U2, and those of `labels_text`.
-pub fn run_labels<T: Threads + Wait + Clock + Clone + Copy + Drop + Send + Sync + 'static>(
+pub fn run_labels<T: TimedRuntime>(
     rt: &HostRuntime,
     threads: &T,
     request: &Labels<'_>,
@@ -42,7 +39,7 @@ pub fn run_labels<T: Threads + Wait + Clock + Clone + Copy + Drop + Send + Sync 
 ///
 /// # Errors
 /// U2, and those of `normal_asked`.
-pub fn run_normal<T: Threads + Wait + Clock + Clone + Copy + Drop + Send + Sync + 'static>(
+pub fn run_normal<T: TimedRuntime>(
     rt: &HostRuntime,
     threads: &T,
     request: &Normalize<'_>,
@@ -61,7 +58,7 @@ pub fn run_normal<T: Threads + Wait + Clock + Clone + Copy + Drop + Send + Sync 
 ///
 /// # Errors
 /// U2, and those of `verify_text` and of `verify_both_text`.
-pub fn run_verify<T: Threads + Wait + Clock + Clone + Copy + Drop + Send + Sync + 'static>(
+pub fn run_verify<T: TimedRuntime>(
     rt: &HostRuntime,
     threads: &T,
     request: &Verify<'_>,
@@ -88,7 +85,7 @@ pub fn run_verify<T: Threads + Wait + Clock + Clone + Copy + Drop + Send + Sync 
 ///
 /// # Errors
 /// U2, and those of `replay_asked`.
-pub fn run_replay<T: Threads + Wait + Clock + Clone + Copy + Drop + Send + Sync + 'static>(
+pub fn run_replay<T: TimedRuntime>(
     rt: &HostRuntime,
     threads: &T,
     request: &Replay<'_>,

@@ -11,12 +11,13 @@ use Rattle.calculus.specs.Normal.{normal_nodes}
 use Rattle.calculus.specs.Tree.{Formula}
 use Rattle.calculus.specs.declared.priorities.Priorities.{Priorities}
 use Rattle.game.specs.declared.limits.TheConstants.{MOST_VERTICES}
+use Rattle.game.specs.declared.player.Player.{Player}
 use Rattle.game.specs.declared.player.Player.TheVariants.{Even, Odd}
 use Rattle.game.specs.Arena.{arena}
 use Rattle.game.specs.Game.{dual}
 use Rattle.game.proofs.Arenas.{arena_is_game, arena_low}
 use Rattle.measures.specs.Progress.{IsLeastTable}
-use Rattle.measures.specs.StoredProposal.{values_of}
+use Rattle.measures.specs.StoredProposal.{game_for, values_of}
 use Rattle.evidence.specs.Best.{IsEvenOf, IsOddOf}
 use Rattle.evidence.specs.Canon.{evidence_text}
 use Rattle.evidence.specs.Evidence.{Evidence}
@@ -27,7 +28,10 @@ use Rattle.engines.specs.Alone.{evidence_alone}
 use Rattle.requests.specs.Writers.{AreWritten, EvenText, OddText, ReportText, TextKind, Unasked, all_writers, lent_for}
 use Rattle.requests.specs.declared.request.ReportForm.{ReportForm}
 use Rattle.requests.proofs.Orders.{one_text, stopped_at, then_more, unasked}
+use Rattle.rankings.specs.Least.{AreWinnersMoves}
+use Rattle.verdicts.specs.declared.evidence_text.LeastMeasures.{LeastMeasures}
 use Rattle.verdicts.specs.declared.proposing.LeastFound.{LeastFound}
+use Rattle.verdicts.specs.EvidenceText.{AreLeastMeasures}
 use Rattle.verdicts.specs.Findings.{IsLeastFound}
 
 -- ------------------------------------------------------------------ in the arena of the form that was made
@@ -36,14 +40,20 @@ module _ (rule : Priorities) (board : BoardKind) (l : System) (f : Formula) (x :
   abbrev ns : List Node
   ns = normal_nodes x.form
 
-  pub few_here : 2 + l.states * length ns ≤ MOST_VERTICES
+  few_here : 2 + l.states * length ns ≤ MOST_VERTICES
   few_here = subst (λ (xs : List Node). 2 + l.states * length xs ≤ MOST_VERTICES) (sym is.form) is.within.vertices
 
-  pub even_least : IsLeastTable (arena l ns) (values_of Even x.proposals)
-  even_least = subst (λ (xs : List Node). IsLeastTable (arena l xs) (values_of Even x.proposals)) (sym is.form) is.least.even
+  least_for : (p : Player) → IsLeastTable (game_for p (arena l ns)) (values_of p x.proposals)
+  least_for Even = subst (λ (xs : List Node). IsLeastTable (arena l xs) (values_of Even x.proposals)) (sym is.form) is.least.even
+  least_for Odd = subst (λ (xs : List Node). IsLeastTable (dual (arena l xs)) (values_of Odd x.proposals)) (sym is.form) is.least.odd
 
-  pub odd_least : IsLeastTable (dual (arena l ns)) (values_of Odd x.proposals)
-  odd_least = subst (λ (xs : List Node). IsLeastTable (dual (arena l xs)) (values_of Odd x.proposals)) (sym is.form) is.least.odd
+  -- what evidence is written from
+  pub least_here : (m : LeastMeasures) → m.proposals.now ≡ x.proposals → m.moves.now ≡ x.moves.items → AreLeastMeasures m (arena l ns)
+  least_here m proposals moves = record {
+    least = subst (λ c. IsLeastTable (game_for m.player (arena l ns)) (values_of m.player c)) (sym proposals) (least_for m.player);
+    moves = subst (λ c. AreWinnersMoves c (arena l ns) m.moves.now) (sym proposals) (subst (AreWinnersMoves x.proposals (arena l ns)) (sym moves)
+        (subst (λ (xs : List Node). AreWinnersMoves x.proposals (arena l xs) x.moves.items) (sym is.form) is.moves));
+  }
 
   -- both players' evidence
   module _ (best : BestExists) (form : IsForm ns) (marks : List Bool) where

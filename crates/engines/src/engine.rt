@@ -1,19 +1,16 @@
 // The engine that the program calls: from both texts to the report.
 
-ghost use Rattle.std.specs.Prelude.{◌≡◌, ℕ, false, List, Some, IfErr, IfOk, MatchResult};
+ghost use Rattle.std.specs.Prelude.{ℕ, false, List, Some, IfErr, MatchResult};
 ghost use Rattle.calculus.specs.Closed.{closed_formula};
 ghost use Rattle.requests.specs.Causes.{HaveCauses};
-ghost use Rattle.requests.specs.Check.{Way, BySets, ByGame, AreMarks, AreSpelled, AnswersCheck, Checks, IsBeyond, IsErrorOf};
+ghost use Rattle.requests.specs.Check.{Way, BySets, ByGame, AreMarks, AreSpelled, AnswersCheck, IsBeyond, IsErrorOf};
 ghost use Rattle.requests.specs.Command.{wanted_in, way_of};
 ghost use Rattle.requests.specs.Strict.{ChecksBy};
-ghost use Rattle.engines.specs.Prepared.{ArePrepared, IsUnprepared};
-ghost use Rattle.verdicts.specs.Findings.{AreFindings, formula_found, system_of, way_in};
 ghost use Rattle.requests.specs.Writers.{lent_writers, report_writer};
 
 use crate::game_text::{check_game, is_game_alone};
 use crate::least::{check_least, is_evidence_alone};
-use crate::outputs::{answer, put_wanted};
-use crate::prepared::{Prepared, prepare};
+use crate::outputs::answer_wanted;
 use game::observer::{Observer, Stage};
 use lts::put;
 use requests::error::MuError;
@@ -24,13 +21,12 @@ use requests::watch::Watcher;
 use requests::writers::Writers;
 use std::alloc::Global;
 use std::hash::BuildHasher;
-use std::sync::Wait;
-use std::thread::Threads;
 use text::sink::Sink;
 use text::source::Source;
-use verdicts::findings::{Findings, find_in};
+use verdicts::findings::find_in;
 use verdicts::marks::{game_marks, plain_marks};
 use verdicts::proposing::least_found;
+use workers::runtime::Runtime;
 
 /// The check that a command asks for: by sets of states where it is plain, and then it writes the report alone; else by a game, with
 /// what is wanted. Each text has a writer; nothing is written to those of texts that aren't wanted. Where it is strict, each word of the
@@ -49,8 +45,8 @@ pub fn check_asked<
     O: Sink,
     V: Sink,
     W: Sink,
-    U: Watcher + Sync,
-    H: Threads + Wait + Clone + Copy + Drop + Send + Sync,
+    U: Watcher,
+    H: Runtime,
 >(
     rt: &H,
     alloc: Global,
@@ -71,15 +67,7 @@ pub fn check_asked<
 }
 
 /// Checks what was read, as a command asks for it.
-fn check_read<
-    G: Sink,
-    E: Sink,
-    O: Sink,
-    V: Sink,
-    W: Sink,
-    U: Watcher + Sync,
-    H: Threads + Wait + Clone + Copy + Drop + Send + Sync,
->(
+fn check_read<G: Sink, E: Sink, O: Sink, V: Sink, W: Sink, U: Watcher, H: Runtime>(
     rt: &H,
     alloc: Global,
     request: &Check<'_>,
@@ -149,15 +137,7 @@ fn report<W: Sink>(
 }
 
 /// Checks by a game what was read, and writes what is wanted.
-fn check_by_game<
-    G: Sink,
-    E: Sink,
-    O: Sink,
-    V: Sink,
-    W: Sink,
-    U: Watcher + Sync,
-    H: Threads + Wait + Clone + Copy + Drop + Send + Sync,
->(
+fn check_by_game<G: Sink, E: Sink, O: Sink, V: Sink, W: Sink, U: Watcher, H: Runtime>(
     rt: &H,
     alloc: Global,
     texts: Texts,
@@ -185,19 +165,22 @@ fn check_by_game<
         }
     }
     let found = find_in(rt, alloc, texts, least, options, watcher)?;
-    tell_making(&found, wanted, watcher);
-    let prepared = prepare(alloc, &found, wanted);
-    watcher.sees(Stage::Writing);
-    answer_prepared(&found, prepared, wanted, writers)
+    answer_wanted(
+        alloc,
+        &found,
+        wanted,
+        &mut writers.game,
+        &mut writers.even,
+        &mut writers.odd,
+        &mut writers.witness,
+        &mut writers.report,
+        watcher,
+    )
 }
 
 /// Checks by a game what was read, and writes the report alone, for which it is enough to know who wins. Where a guess says it, and is good, no
 /// worker lifts.
-fn report_by_game<
-    W: Sink,
-    U: Watcher + Sync,
-    H: Threads + Wait + Clone + Copy + Drop + Send + Sync,
->(
+fn report_by_game<W: Sink, U: Watcher, H: Runtime>(
     rt: &H,
     alloc: Global,
     texts: &Texts,
@@ -214,47 +197,4 @@ fn report_by_game<
     let marks = game_marks(rt, alloc, &texts.system, &texts.formula, options, watcher);
     watcher.sees(Stage::Writing);
     report(alloc, texts, marks, form, out)
-}
-
-/// Tells that evidence or a witness is made, where one is wanted.
-fn tell_making<U: Watcher>(found: &Findings, wanted: Wanted, watcher: &U) {
-    if wanted.evidence || wanted.witness.is_some() {
-        watcher.sees(Stage::MakingEvidence {
-            vertices: found.solution.game.vertices(),
-        });
-    }
-}
-
-/// Writes each text that is wanted to its writer and answers, where what is wanted was made; else nothing is written.
-fn answer_prepared<G: Sink, E: Sink, O: Sink, V: Sink, W: Sink>(
-    found: &Findings,
-    prepared: Result<Prepared, MuError>,
-    wanted: Wanted,
-    writers: &mut Writers<G, E, O, V, W>,
-) -> Result<bool, MuError>
-    requires found { AreFindings found.now }
-    requires prepared { IfOk prepared (ArePrepared found.now) }
-    requires wanted { IfOk prepared (λ prepared. prepared.wanted ≡ wanted) }
-    requires refusal { IfErr prepared (IsUnprepared wanted) }
-    ensures answers { (first second : List ℕ) → AreSpelled first second (system_of found.now) (formula_found found.now)
-        → AnswersCheck (way_in found.now) first second
-        (lent_writers G.taken E.taken O.taken V.taken W.taken wanted writers.old writers.new) result }
-    ensures cause { IfErr result (HaveCauses false false) }
-{
-    // By a match, whose arms are the cases of the proof.
-    match prepared {
-        Ok(prepared) => {
-            let wrote = put_wanted(
-                found,
-                &prepared,
-                &mut writers.game,
-                &mut writers.even,
-                &mut writers.odd,
-                &mut writers.witness,
-                &mut writers.report,
-            );
-            answer(found, wrote)
-        }
-        Err(error) => Err(error),
-    }
 }

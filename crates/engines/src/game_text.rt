@@ -21,10 +21,9 @@ use requests::texts::Texts;
 use requests::watch::Watcher;
 use requests::writers::Writers;
 use std::alloc::Global;
-use std::sync::Wait;
-use std::thread::Threads;
 use text::sink::Sink;
 use verdicts::marks::{MarkedGame, marked_game};
+use workers::runtime::Runtime;
 
 /// Whether the game's text is wanted before the report, and nothing else.
 pub(crate) fn is_game_alone(wanted: Wanted) -> bool
@@ -47,23 +46,12 @@ fn put_game<G: Sink, E: Sink, O: Sink, V: Sink, W: Sink>(
         → AreWritten (IsTextOf (ByGame options.now.priorities (Some options.now.board)) l f marks)
         (lent_writers G.taken E.taken O.taken V.taken W.taken (game_alone form) writers.old writers.new) result }
 {
-    // For the proof alone: clauses name them.
-    let _ = texts;
-    let _ = options;
     write_game(&found.game, &mut writers.game)?;
     put(&mut writers.report, report)
 }
 
 /// Checks by a game what was read, and writes the game's text and the report.
-pub(crate) fn check_game<
-    G: Sink,
-    E: Sink,
-    O: Sink,
-    V: Sink,
-    W: Sink,
-    U: Watcher + Sync,
-    H: Threads + Wait + Clone + Copy + Drop + Send + Sync,
->(
+pub(crate) fn check_game<G: Sink, E: Sink, O: Sink, V: Sink, W: Sink, U: Watcher, H: Runtime>(
     rt: &H,
     alloc: Global,
     texts: &Texts,

@@ -1,9 +1,7 @@
 // A check that writes evidence from least measures, where no game is stored.
 
-ghost use Rattle.std.specs.Prelude.{◌≡◌, ◌↔◌, ℕ, Bool, false, List, Some, Ok, Err, IfErr, IsTrue, MatchResult, length, map, slice_index_or};
+ghost use Rattle.std.specs.Prelude.{◌≡◌, ◌↔◌, ℕ, Bool, false, List, Some, Ok, Err, IfErr, IsTrue, MatchResult, length, slice_index_or};
 ghost use Rattle.calculus.specs.Closed.{closed_formula};
-ghost use Rattle.calculus.specs.Normal.{normal_nodes};
-ghost use Rattle.calculus.specs.Taken.{AreSets};
 ghost use Rattle.requests.specs.Causes.{HaveCauses};
 ghost use Rattle.requests.specs.Check.{AnswersCheck, AreSpelled, ByGame, IsTextOf};
 ghost use Rattle.engines.specs.Alone.{evidence_alone};
@@ -12,7 +10,6 @@ ghost use Rattle.requests.specs.declared.request.ReportForm.{ReportForm};
 ghost use Rattle.requests.specs.Writers.{AreWritten, lent_writers};
 ghost use Rattle.verdicts.specs.Findings.{IsLeastFound};
 
-use calculus::label_sets::label_sets;
 use evidence::law::best_exists;
 use game::observer::{Observer, Stage};
 use game::player::Player;
@@ -40,28 +37,24 @@ fn put_least<G: Sink, E: Sink, O: Sink, V: Sink, W: Sink>(
     texts: &Texts,
     options: &Options,
     least: &LeastFound,
-    sets: &[Vec<bool>],
     report: &[u8],
     writers: &mut Writers<G, E, O, V, W>,
 ) -> Result<(), WriteFault>
-    requires least { IsLeastFound options.now.priorities options.now.board texts.now.system.system (closed_formula texts.now.formula) least.now }
-    requires sets { AreSets texts.now.system.labels (normal_nodes least.now.form) (map (λ set. set.items) sets.now) }
-    requires count { length sets.now ≡ length (normal_nodes least.now.form) }
+    requires { IsLeastFound options.now.priorities options.now.board texts.now.system.system (closed_formula texts.now.formula) least.now }
     ensures { let l = texts.now.system.system in let f = closed_formula texts.now.formula in
         let way = ByGame options.now.priorities (Some options.now.board) in
         (form : ReportForm) (marks : List Bool) → report.now ≡ report_in form l f marks
         → AreWritten (IsTextOf way l f marks)
         (lent_writers G.taken E.taken O.taken V.taken W.taken (evidence_alone form) writers.old writers.new) result }
 {
-    // For the proof alone: clauses name it.
+    // For the proof alone: clauses name them.
     let _ = options;
+    let _ = texts;
     best_exists();
     least.form.known();
     let even = LeastMeasures {
-        system: &texts.system,
-        form: &least.form,
-        sets,
         proposals: &least.proposals,
+        moves: &least.moves,
         player: Player::Even,
     };
     even.write(&mut writers.even)?;
@@ -107,9 +100,8 @@ pub(crate) fn check_least<G: Sink, E: Sink, O: Sink, V: Sink, W: Sink, U: Watche
     let marks = least_marks(alloc, texts, options, least)?;
     let marked = marks.as_slice();
     let report = report_text(alloc, &texts.system, &texts.formula, marked, wanted.report)?;
-    let sets = label_sets(alloc, &texts.system, &least.form)?;
     watcher.sees(Stage::Writing);
     let told = report.as_slice();
-    let wrote = put_least(texts, options, least, &sets, told, writers);
+    let wrote = put_least(texts, options, least, told, writers);
     answer_marked(texts, marked, wrote)
 }

@@ -1,15 +1,13 @@
 // The engines by one board, by another or by none, as a library offers them: each writes all texts for which a writer is lent.
 
-ghost use Rattle.std.specs.Prelude.{◌∷◌, ◌++◌, ℕ, false, List, None, Some, IfErr};
+ghost use Rattle.std.specs.Prelude.{◌∷◌, ◌++◌, None, Some, IfErr};
 ghost use Rattle.requests.specs.declared.request.ReportForm.TheVariants.{Whole};
 ghost use Rattle.requests.specs.Causes.{HaveCauses};
-ghost use Rattle.requests.specs.Check.{BySets, ByGame, AreSpelled, AnswersCheck, Checks, IsErrorOf};
-ghost use Rattle.verdicts.specs.Findings.{AreFindings, formula_found, system_of, way_in};
-ghost use Rattle.requests.specs.Writers.{all_writers, evidence_writers, game_writer, no_writer, report_writer};
+ghost use Rattle.requests.specs.Check.{BySets, ByGame, Checks, IsErrorOf};
+ghost use Rattle.requests.specs.Writers.{evidence_writers, game_writer, no_writer, report_writer};
 
 use crate::engine::report_plain;
-use crate::outputs::{answer, put_wanted};
-use crate::prepared::prepare;
+use crate::outputs::answer_wanted;
 use game::observer::Silent;
 use requests::error::MuError;
 use requests::request::{Options, ReportForm, Wanted};
@@ -19,12 +17,12 @@ use std::alloc::Global;
 use std::hash::BuildHasher;
 use std::io;
 use std::io::Write;
-use std::sync::Wait;
 use std::thread::Threads;
 use text::sink::Sink;
 use text::source::Source;
-use verdicts::findings::{Findings, find_alone, find_with};
+use verdicts::findings::{find_alone, find_with};
 use workers::gate::{Gate, NoGate};
+use workers::runtime::Runtime;
 
 /// The report and no other text.
 const REPORT: Wanted = Wanted {
@@ -87,6 +85,7 @@ macro_rules! answer_lent {
                     &mut NoWriter,
                     &mut NoWriter,
                     $out,
+                    &Silent,
                 ),
                 Some(game) => answer_wanted(
                     $alloc,
@@ -97,6 +96,7 @@ macro_rules! answer_lent {
                     &mut NoWriter,
                     &mut NoWriter,
                     $out,
+                    &Silent,
                 ),
             },
             EvidenceWriters::Both(even, odd) => match $game {
@@ -109,9 +109,20 @@ macro_rules! answer_lent {
                     odd,
                     &mut NoWriter,
                     $out,
+                    &Silent,
                 ),
                 Some(game) => {
-                    answer_wanted($alloc, $found, BOTH, game, even, odd, &mut NoWriter, $out)
+                    answer_wanted(
+                        $alloc,
+                        $found,
+                        BOTH,
+                        game,
+                        even,
+                        odd,
+                        &mut NoWriter,
+                        $out,
+                        &Silent,
+                    )
                 }
             },
         }
@@ -154,7 +165,7 @@ pub fn check<
     G: Sink,
     E: Sink,
     O: Sink,
-    H: Threads + Wait + Clone + Copy + Drop + Send + Sync,
+    H: Runtime,
 >(
     rt: &H,
     alloc: Global,
@@ -189,8 +200,8 @@ pub fn check_gated<
     G: Sink,
     E: Sink,
     O: Sink,
-    T: Gate + Sync,
-    H: Threads + Wait + Clone + Copy + Drop + Send + Sync,
+    T: Gate,
+    H: Runtime,
 >(
     rt: &H,
     alloc: Global,
@@ -248,27 +259,4 @@ pub fn check_one<
     let answered = answer_lent!(alloc, &found, game, evidence, out);
     drop(found);
     answered
-}
-
-/// Writes what is wanted, and answers.
-fn answer_wanted<G: Sink, E: Sink, O: Sink, V: Sink, W: Sink>(
-    alloc: Global,
-    found: &Findings,
-    wanted: Wanted,
-    game: &mut G,
-    even: &mut E,
-    odd: &mut O,
-    witness: &mut V,
-    out: &mut W,
-) -> Result<bool, MuError>
-    requires { AreFindings found.now }
-    ensures answers { (first second : List ℕ) → AreSpelled first second (system_of found.now) (formula_found found.now)
-        → AnswersCheck (way_in found.now) first second (all_writers wanted (G.taken game.old) (G.taken game.new)
-        (E.taken even.old) (E.taken even.new) (O.taken odd.old) (O.taken odd.new) (V.taken witness.old) (V.taken witness.new)
-        (W.taken out.old) (W.taken out.new)) result }
-    ensures cause { IfErr result (HaveCauses false false) }
-{
-    let prepared = prepare(alloc, found, wanted)?;
-    let wrote = put_wanted(found, &prepared, game, even, odd, witness, out);
-    answer(found, wrote)
 }

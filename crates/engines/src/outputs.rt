@@ -1,23 +1,58 @@
 // The texts of a check, written in their order: the game, Even's evidence, Odd's, the witness, the report.
 
-ghost use Rattle.std.specs.Prelude.{◌≡◌, ◌∷◌, [], Some, MatchResult, Ok, Err, slice_index_or, false};
+ghost use Rattle.std.specs.Prelude.{◌≡◌, ◌∷◌, [], ℕ, false, List, Some, IfErr, MatchResult, Ok, Err, slice_index_or};
 ghost use Rattle.engines.specs.Prepared.{ArePrepared, AreShown, IsTextFound};
-ghost use Rattle.verdicts.specs.Findings.{AreFindings};
+ghost use Rattle.verdicts.specs.Findings.{AreFindings, formula_found, system_of, way_in};
+ghost use Rattle.requests.specs.Causes.{HaveCauses};
+ghost use Rattle.requests.specs.Check.{AnswersCheck, AreSpelled};
 ghost use Rattle.requests.specs.Writers.{AreWritten, EvenText, OddText, all_writers, kind_where, lent_for, report_writer, witness_kind};
 
-use crate::prepared::{Prepared, WitnessText, initial_mark};
+use crate::prepared::{Prepared, WitnessText, initial_mark, prepare};
 use evidence::writer::write_evidence;
+use game::observer::{Observer, Stage};
 use lts::writer::write_part;
 use lts::{WriteFault, put};
 use pgsolver::writer::write_game;
 use requests::error::MuError;
-use requests::request::WitnessForm;
+use requests::request::{Wanted, WitnessForm};
+use requests::watch::Watcher;
+use std::alloc::Global;
 use text::sink::Sink;
 use verdicts::findings::Findings;
 use witness::drawing::write_drawing;
 
+/// Makes what is wanted of these findings, writes it, and answers. Nothing is written before all is made.
+pub(crate) fn answer_wanted<G: Sink, E: Sink, O: Sink, V: Sink, W: Sink, U: Watcher>(
+    alloc: Global,
+    found: &Findings,
+    wanted: Wanted,
+    game: &mut G,
+    even: &mut E,
+    odd: &mut O,
+    witness: &mut V,
+    out: &mut W,
+    watcher: &U,
+) -> Result<bool, MuError>
+    requires { AreFindings found.now }
+    ensures answers { (first second : List ℕ) → AreSpelled first second (system_of found.now) (formula_found found.now)
+        → AnswersCheck (way_in found.now) first second (all_writers wanted (G.taken game.old) (G.taken game.new)
+        (E.taken even.old) (E.taken even.new) (O.taken odd.old) (O.taken odd.new) (V.taken witness.old) (V.taken witness.new)
+        (W.taken out.old) (W.taken out.new)) result }
+    ensures cause { IfErr result (HaveCauses false false) }
+{
+    if wanted.evidence || wanted.witness.is_some() {
+        watcher.sees(Stage::MakingEvidence {
+            vertices: found.solution.game.vertices(),
+        });
+    }
+    let prepared = prepare(alloc, found, wanted)?;
+    watcher.sees(Stage::Writing);
+    let wrote = put_wanted(found, &prepared, game, even, odd, witness, out);
+    answer(found, wrote)
+}
+
 /// Writes the texts that are wanted, and then the report.
-pub fn put_wanted<G: Sink, E: Sink, O: Sink, V: Sink, W: Sink>(
+fn put_wanted<G: Sink, E: Sink, O: Sink, V: Sink, W: Sink>(
     found: &Findings,
     prepared: &Prepared,
     game: &mut G,

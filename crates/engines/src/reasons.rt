@@ -31,8 +31,6 @@ use requests::texts::{Texts, read_asked};
 use requests::watch::Watcher;
 use std::alloc::Global;
 use std::hash::BuildHasher;
-use std::sync::Wait;
-use std::thread::Threads;
 use text::sink::Sink;
 use text::source::Source;
 use verdicts::findings::{Findings, find_in};
@@ -43,6 +41,7 @@ use why::visit::Visit;
 use why::walk::telling;
 use why::writer::{Story, write_story};
 use witness::part::root_vertex;
+use workers::runtime::Runtime;
 
 /// The visits that tell a play: the text of the modality of each node of the normal form, how many visits are made at most, which of them a run comes back
 /// to, and how many are told.
@@ -66,8 +65,8 @@ pub fn tell_why<
     R: Source + Drop,
     S: Source + Drop,
     W: Sink,
-    U: Watcher + Sync,
-    H: Threads + Wait + Clone + Copy + Drop + Send + Sync,
+    U: Watcher,
+    H: Runtime,
 >(
     rt: &H,
     alloc: Global,
@@ -87,7 +86,7 @@ pub fn tell_why<
 }
 
 /// Tells why, of texts that were read.
-fn tell_read<W: Sink, U: Watcher + Sync, H: Threads + Wait + Clone + Copy + Drop + Send + Sync>(
+fn tell_read<W: Sink, U: Watcher, H: Runtime>(
     rt: &H,
     alloc: Global,
     texts: Texts,

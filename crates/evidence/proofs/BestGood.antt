@@ -8,7 +8,7 @@ use Rattle.game.specs.Game.{Game, IsGame, IsVertex, Vertex, count, dual, vertex}
 use Rattle.game.specs.Wins.{Wins}
 use Rattle.measures.specs.Measure.{Counts, IsMeasure, Measure, Reaches, Top, components}
 use Rattle.measures.specs.Progress.{IsLeastTable, value_at}
-use Rattle.measures.specs.Laws.{IsLeastSuccessor}
+use Rattle.measures.specs.Laws.{IsBestMove, IsLeastSuccessor}
 use Rattle.measures.proofs.Dual.{dual_wins, wins_dual}
 use Rattle.measures.proofs.Bests.{vertex_here}
 use Rattle.game.proofs.Duals.{dual_game, long_dual}
@@ -17,7 +17,7 @@ use Rattle.measures.proofs.Lists.{all_contained, all_got}
 use Rattle.measures.proofs.Lifts.{even_reaches, odd_reaches, value_measure}
 use Rattle.measures.proofs.Measures.{at_most_trans, prog, reaches_up}
 use Rattle.measures.proofs.TableWins.{other_owner}
-use Rattle.evidence.specs.Best.{IsBestMove, IsEvenOf}
+use Rattle.evidence.specs.Best.{IsEvenOf}
 use Rattle.evidence.specs.Evidence.{Descends, Entry, Evidence, GoesTo, counted, IsEvidence, LacksFault, IsGood, entry_at, has}
 use Rattle.evidence.specs.Laws.{EvenEvidenceIsGood, OddEvidenceIsGood}
 use Rattle.evidence.specs.declared.verdict.Fault.{Fault}

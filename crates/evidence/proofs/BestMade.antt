@@ -9,14 +9,14 @@ use Rattle.game.specs.declared.player.Player.TheVariants.{Even, Odd}
 use Rattle.game.specs.Game.{Game, IsGame, IsVertex, Vertex, dual, vertex}
 use Rattle.measures.specs.Measure.{Counts, IsAtMost, IsBelow, IsProg, Measure, Top}
 use Rattle.measures.specs.Progress.{IsLeastTable, value_at}
-use Rattle.measures.specs.Laws.{IsLeastSuccessor}
+use Rattle.measures.specs.Laws.{IsBestMove, IsLeastSuccessor}
 use Rattle.measures.proofs.Bests.{vertex_here}
 use Rattle.game.proofs.Duals.{dual_game}
 use Rattle.laws.proofs.LeastExists.{least_exists, least_unique}
 use Rattle.measures.proofs.Lifts.{value_measure}
 use Rattle.measures.proofs.Lists.{all_contained, all_got, best_of}
 use Rattle.measures.proofs.Measures.{at_most_itself, at_most_or_below, at_most_trans, below_at_most, not_below, prog, prog_more}
-use Rattle.evidence.specs.Best.{IsBestMove, IsEvenOf}
+use Rattle.evidence.specs.Best.{IsEvenOf}
 use Rattle.evidence.specs.Evidence.{Entry, Evidence, entry_at}
 use Rattle.evidence.specs.Laws.{BestExists, BestIsOne}
 

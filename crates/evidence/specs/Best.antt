@@ -1,17 +1,12 @@
 -- The evidence that the least progress tables give: all that each player wins.
-use Rattle.std.specs.Prelude.{◌≡◌, ℕ, ◌≤◌, List, length, Option, Some, None}
+use Rattle.std.specs.Prelude.{◌≡◌, ℕ, List, length, Some, None}
 use Rattle.game.specs.declared.player.Player.{Player}
 use Rattle.game.specs.declared.player.Player.TheVariants.{Even, Odd}
 use Rattle.game.specs.Game.{Game, Vertex, dual, vertex}
 use Rattle.measures.specs.Measure.{Counts, Measure, Top}
 use Rattle.measures.specs.Progress.{IsLeastTable, value_at}
-use Rattle.measures.specs.Laws.{IsLeastSuccessor}
+use Rattle.measures.specs.Laws.{IsBestMove}
 use Rattle.evidence.specs.Evidence.{Entry, Evidence, entry_at}
-
--- At Even's vertices it is the least successor among those with the least prog, and at Odd's there is none.
-abbrev pub IsBestMove : Game → List Measure → Vertex → Option ℕ → Type 0
-IsBestMove g table x None = x.owner ≡ Odd
-IsBestMove g table x (Some t) = (x.owner ≡ Even) × IsLeastSuccessor g table x t × ((u : ℕ) → IsLeastSuccessor g table x u → t ≤ u)
 
 -- Even's: the vertices at which the least measure isn't top, and those measures as ranks
 pub record IsEvenOf (g : Game) (e : Evidence) : Type 0 where

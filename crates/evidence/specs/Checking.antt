@@ -2,8 +2,8 @@
 use Rattle.std.specs.Prelude.{◌≡◌, ℕ, ◌+◌, ◌*◌, ◌<◌, ◌≤◌, ◌⊎◌, ◌↔◌, List, length, Contains, IsTrue, Option, Some, None}
 use Rattle.game.specs.Game.{Game, Vertex, vertex}
 use Rattle.game.specs.Wins.{WinsBy}
+use Rattle.measures.specs.Laws.{IsBestMove}
 use Rattle.measures.specs.Measure.{Measure}
-use Rattle.evidence.specs.Best.{IsBestMove}
 use Rattle.evidence.specs.Evidence.{Descends, Entry, Evidence, LacksFault, IsFreeAt, entry_at, has}
 use Rattle.evidence.specs.Verdict.{IsLeftOut, number_of}
 use Rattle.evidence.specs.declared.verdict.Fault.{Fault}

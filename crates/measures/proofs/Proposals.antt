@@ -153,6 +153,7 @@ module _ (c : Proposal) (game : IsGame c.game) (progress : IsProgress c.game c.v
     ]
 
     how : (u t : ℕ) → IsReason c k (priority g u) u t → IsTied u t ⊎ ((priority g u ≡ counted_at g k) × HasAllButOne c.values k u t)
+    unfolding IsReason
     how u t reason =
         let p = priority g u in
         let told : (o : Ordering) → nat_cmp p (counted_at g k) ≡ o → MatchUpTo o (HasAsMuch c k p u t) (HasAllButOne c.values k u t) =

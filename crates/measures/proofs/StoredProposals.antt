@@ -1,12 +1,13 @@
 -- Proposals that are stored in packed numbers.
 use Rattle.measures.proofs.Common.{◌≡◌, ◌≢◌, ℕ, suc, ◌<◌, ◌≤◌, List, [], ◌∷◌, length, refl, ap, ap₂}
 use Rattle.measures.proofs.Common.{◌∙◌, ◌⊎◌, subst, inl, inr, arith, leb_tells, get_or_past}
-use Rattle.measures.proofs.Common.{AllZip, AllZip-long, Some, Ordering, Less, Equal, nat_cmp, Player, Even, Odd}
+use Rattle.measures.proofs.Common.{AllZip, AllZip-long, Some, Ordering, Less, Equal, nat_cmp, opponent, Player, Even, Odd}
 use Rattle.measures.proofs.Common.{Vertex, Game, count, vertex, components, Measure, Top, Counts, IsMeasure, measure_cmp, value_at, Rows, counts_of}
 use Rattle.measures.specs.Measure.{counted_at, cut, digit_of}
 use Rattle.measures.specs.declared.proposal.PlayerLayout.{PlayerLayout}
-use Rattle.measures.specs.Proposal.{AreEnough, HasAllButOne, HasAsMuch, HasReasonsFor, HeightFalls, IsReason, MatchUpTo, Proposal}
+use Rattle.measures.specs.Proposal.{AreEnough, HasAllButOne, HasAsMuch, HasReasonsFor, HeightFalls, IsFirstMoveBy, IsReason, MatchUpTo, Proposal}
 use Rattle.measures.specs.StoredProposal.{AreBoundsIn, shift_in}
+use Rattle.measures.proofs.Places.{place_contained}
 use Rattle.measures.proofs.Plain.{same_values}
 
 -- ------------------------------------------------------------------ shifts
@@ -22,6 +23,7 @@ risen layout n long below p = elim (leb_tells n p) [
 
 pub as_much : (c : Proposal) (digit p v t at : ℕ) (own other : Measure) → at ≡ counted_at c.game digit → Less ≡ nat_cmp p at → own ≡ value_at c.values v
     → other ≡ value_at c.values t → Equal ≡ measure_cmp (cut digit own) (cut digit other) → HeightFalls c digit p v t → IsReason c digit p v t
+unfolding IsReason
 as_much c digit p v t at own other e less o r equal falls =
     subst (λ (z : Ordering). MatchUpTo z (HasAsMuch c digit p v t) (HasAllButOne c.values digit v t)) (less ∙ ap (nat_cmp p) e)
     (subst (λ (z : Ordering). MatchUpTo z (Unit {0}) (HeightFalls c digit p v t))
@@ -33,6 +35,11 @@ as_much c digit p v t at own other e less o r equal falls =
 abbrev pub Undecided : Player → (ℕ → Type 0) → ℕ → Type 0
 Undecided Even P t = P t
 Undecided Odd P t = Unit {0}
+
+-- A move's owner reaches enough.
+pub enough_for : (o : Player) (P : ℕ → Type 0) (ts : List ℕ) (next : ℕ) → IsFirstMoveBy o P ts next → AreEnough (opponent o) P ts
+enough_for Even P ts next m = (next, place_contained ts m.place next m.inside m.there, m.holds)
+enough_for Odd P ts next m = m.1
 
 -- ------------------------------------------------------------------ a vertex
 

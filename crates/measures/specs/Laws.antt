@@ -1,6 +1,6 @@
 -- What holds of all parity games and their progress measures (Jurdziński 2000).
-use Rattle.std.specs.Prelude.{◌≡◌, ◌≢◌, ◌<◌, ◌⊎◌, ◌↔◌, ◌≤◌, ◌*◌, ℕ, Contains, List, Some, length}
-use Rattle.game.specs.declared.player.Player.TheVariants.{Even}
+use Rattle.std.specs.Prelude.{◌≡◌, ◌≢◌, ◌<◌, ◌⊎◌, ◌↔◌, ◌≤◌, ◌*◌, ℕ, Contains, List, None, Option, Some, length}
+use Rattle.game.specs.declared.player.Player.TheVariants.{Even, Odd}
 use Rattle.calculus.specs.declared.limits.TheConstants.{GREATEST_PRIORITY}
 use Rattle.game.specs.Game.{Game, IsGame, Vertex, dual, greatest, vertex}
 use Rattle.game.specs.Wins.{OddWins, Wins}
@@ -21,6 +21,11 @@ pub record IsLeastSuccessor (g : Game) (table : List Measure) (x : Vertex) (t : 
 -- the least successor of a vertex among those with the least prog
 abbrev pub IsBestSuccessor : Game → List Measure → ℕ → ℕ → Type 0
 IsBestSuccessor g table v t = (x : Vertex) → vertex g v ≡ Some x → IsLeastSuccessor g table x t × ((u : ℕ) → IsLeastSuccessor g table x u → t ≤ u)
+
+-- At Even's vertices it is the least successor among those with the least prog, and at Odd's there is none.
+abbrev pub IsBestMove : Game → List Measure → Vertex → Option ℕ → Type 0
+IsBestMove g table x None = x.owner ≡ Odd
+IsBestMove g table x (Some t) = (x.owner ≡ Even) × IsLeastSuccessor g table x t × ((u : ℕ) → IsLeastSuccessor g table x u → t ≤ u)
 
 -- Even wins each vertex at which some progress table isn't top, by choosing a successor with the least prog.
 abbrev pub TableWins : Type 0

@@ -1,5 +1,5 @@
 -- Proposals: a value for each vertex of a game, with reasons that can be tested in one pass over the vertices.
-use Rattle.std.specs.Prelude.{◌≡◌, ◌≢◌, ◌<◌, ◌≤◌, ◌⊎◌, ℕ, suc, ◌+◌, ◌-◌, ◌/◌, ◌^◌, List, Contains, Some, true, length}
+use Rattle.std.specs.Prelude.{◌≡◌, ◌≢◌, ◌<◌, ◌≤◌, ◌⊎◌, ℕ, suc, ◌+◌, ◌-◌, ◌/◌, ◌^◌, List, Contains, Some, true, length, slice_index}
 use Rattle.std.specs.Ordering.{nat_cmp}
 use Rattle.std.specs.declared.cmp.Ordering.{Ordering}
 use Rattle.std.specs.declared.cmp.Ordering.TheVariants.{Less, Equal, Greater}
@@ -8,6 +8,7 @@ use Rattle.game.specs.declared.player.Player.TheVariants.{Even, Odd}
 use Rattle.game.specs.Game.{Game, Vertex, opponent, vertex}
 use Rattle.measures.specs.Measure.{IsMeasure, Measure, Reaches, components, digit_of, counted_at, cut, is_odd, measure_cmp}
 use Rattle.measures.specs.Progress.{value_at}
+use Rattle.measures.specs.declared.proposal.TheConstants.{NO_MOVE}
 
 -- A proposal names its game. It has for each vertex a value, and for each digit of measures and each vertex a height. For each priority a shift tells how many
 -- of the lowest bits of heights don't count there.
@@ -49,7 +50,7 @@ HasAllButOne values digit v t =
 
 -- The edge from v to t is a reason for what the value of v, a vertex of this priority, has at a digit: t has as much, but for one where v counts at this digit
 -- itself. There is none where the priority is above that of the digit.
-abbrev pub IsReason : Proposal → (digit p v t : ℕ) → Type 0
+unfoldable pub IsReason : Proposal → (digit p v t : ℕ) → Type 0
 IsReason c digit p v t = MatchUpTo (nat_cmp p (counted_at c.game digit)) (HasAsMuch c digit p v t) (HasAllButOne c.values digit v t)
 
 -- all of these for Even, and one of them for Odd
@@ -57,11 +58,31 @@ abbrev pub AreEnough : Player → (ℕ → Type 0) → List ℕ → Type 0
 AreEnough Even P ts = (t : ℕ) → Contains ts t → P t
 AreEnough Odd P ts = (t : ℕ) × Contains ts t × P t
 
+-- The value of v, a vertex of this priority, reaches that of t.
+abbrev pub ReachesFrom : Game → List Measure → (p v t : ℕ) → Type 0
+ReachesFrom g values p v t = Reaches g p (value_at values t) (value_at values v)
+
 -- The value of v reaches that of one successor where v is Even's, and those of all where it is Odd's.
 abbrev pub ReachesEnough : Game → List Measure → ℕ → Type 0
 ReachesEnough g values v =
-    (x : Vertex) × (vertex g v ≡ Some x)
-    × AreEnough (opponent x.owner) (λ t. Reaches g x.priority (value_at values t) (value_at values v)) x.successors
+    (x : Vertex) × (vertex g v ≡ Some x) × AreEnough (opponent x.owner) (ReachesFrom g values x.priority v) x.successors
+
+-- t is the first of these of which P holds.
+pub record IsFirstOf (P : ℕ → Type 0) (ts : List ℕ) (t : ℕ) : Type 0 where
+  pub place : ℕ
+  pub inside : place < length ts
+  pub there : slice_index ts place ≡ t
+  pub holds : P t
+  pub before : (i : ℕ) → i < place → P (slice_index ts i) → ⊥
+
+-- Even goes on to the first of these that is reached. Where Odd does, all are reached, and Even has no move.
+abbrev pub IsFirstMoveBy : Player → (ℕ → Type 0) → List ℕ → ℕ → Type 0
+IsFirstMoveBy Even P ts next = IsFirstOf P ts next
+IsFirstMoveBy Odd P ts next = (next ≡ NO_MOVE) × ((t : ℕ) → Contains ts t → P t)
+
+-- Where Even goes on from v, if v is Even's.
+abbrev pub IsFirstMove : Game → List Measure → (v next : ℕ) → Type 0
+IsFirstMove g values v next = (x : Vertex) × (vertex g v ≡ Some x) × IsFirstMoveBy x.owner (ReachesFrom g values x.priority v) x.successors next
 
 -- What the value of v has at this digit, if anything, has reasons enough.
 abbrev pub HasReasonsFor : Proposal → (digit v : ℕ) → Type 0

@@ -1,17 +1,15 @@
 -- How proposals of both players are stored, and how they are read.
-use Rattle.std.specs.Prelude.{ℕ, zero, suc, ◌+◌, ◌*◌, ◌%◌, ◌/◌, ◌^◌, ◌≤◌, List, map, min, slice_index_or, if◌then◌else◌}
+use Rattle.std.specs.Prelude.{ℕ, zero, suc, ◌+◌, ◌*◌, ◌%◌, ◌/◌, ◌^◌, ◌≤◌, List, map, min, slice_index_or, ◌==◌, None, Option, Some, if◌then◌else◌}
 use Rattle.std.specs.List.{AllZip}
 use Rattle.game.specs.declared.player.Player.{Player}
 use Rattle.game.specs.declared.player.Player.TheVariants.{Even, Odd}
 use Rattle.game.specs.Game.{Game, count, dual}
-use Rattle.measures.specs.Measure.{Counts, Measure, Reaches, Top, components, is_odd}
-use Rattle.measures.specs.Progress.{value_at}
-use Rattle.measures.specs.Proposal.{IsReason, Proposal}
+use Rattle.measures.specs.Measure.{Counts, Measure, Top, components, is_odd}
+use Rattle.measures.specs.Proposal.{Proposal}
 use Rattle.measures.specs.declared.field.CountField.{CountField}
-use Rattle.measures.specs.declared.proposal.Demand.{Demand}
-use Rattle.measures.specs.declared.proposal.Demand.TheVariants.{Reach, Reason}
 use Rattle.measures.specs.declared.proposal.PlayerLayout.{PlayerLayout}
 use Rattle.measures.specs.declared.proposal.Proposals.{Proposals}
+use Rattle.measures.specs.declared.proposal.TheConstants.{NO_MOVE}
 use Rattle.measures.specs.declared.value.ProposedValue.{ProposedValue}
 
 -- The game that a player's measures are of: Odd's are those of the dual.
@@ -75,7 +73,10 @@ proposal_in player c g = record {
 abbrev pub AreBoundsIn : Game → List ℕ → Type 0
 AreBoundsIn g bounds = AllZip (λ bound p. bound ≤ count g p) bounds (components g)
 
--- From v, a vertex of this priority, on to t: the value of v reaches that of t, or the edge is a reason at a digit.
-abbrev pub Meets : Proposal → Demand → (p v t : ℕ) → Type 0
-Meets c Reach p v t = Reaches c.game p (value_at c.values t) (value_at c.values v)
-Meets c (Reason digit) p v t = IsReason c digit p v t
+-- who is said to win v
+abbrev pub winner_at : Proposals → ℕ → Player
+winner_at c v = winner_of (slice_index_or c.numbers.items v 0)
+
+-- the move that a number says: none, or on to a successor
+abbrev pub move_said : ℕ → Option ℕ
+move_said next = if next == NO_MOVE then None else Some next

@@ -1,13 +1,13 @@
 // Proposals of the least progress tables of both players, which one pass over the vertices tests.
 
-ghost use Rattle.std.specs.Prelude.{◌≡◌, ◌<◌, ◌≤◌, ◌↔◌, ℕ, suc, IsTrue, Some, length};
+ghost use Rattle.std.specs.Prelude.{◌≡◌, ◌<◌, ◌≤◌, ◌↔◌, ℕ, suc, Contains, IfSome, IsTrue, Some, length};
 ghost use Rattle.std.specs.List.{AllByRecursion};
 ghost use Rattle.game.specs.Game.{Game, vertex as vertex_at};
 ghost use Rattle.game.specs.Lent.{lent_vertex};
 ghost use Rattle.measures.specs.Measure.{components};
 ghost use Rattle.measures.specs.Progress.{IsLeastTable, value_at};
-ghost use Rattle.measures.specs.Proposal.{AreEnough, HasReasonsFor, HeightFalls, IsGoodVertex, IsReason};
-ghost use Rattle.measures.specs.StoredProposal.{AreBoundsIn, Meets, height_in, layout_of, proposal_in, shift_in, value_said, values_of, winner_of};
+ghost use Rattle.measures.specs.Proposal.{AreEnough, HasReasonsFor, HeightFalls, IsFirstOf, IsGoodVertex, IsFirstMove, IsFirstMoveBy, IsReason, ReachesFrom};
+ghost use Rattle.measures.specs.StoredProposal.{AreBoundsIn, height_in, layout_of, proposal_in, shift_in, value_of, value_said, values_of, winner_at, winner_of};
 
 use crate::field::CountField;
 use crate::measure::{COMPONENTS, Measure};
@@ -20,6 +20,9 @@ use std::cmp::Ordering;
 
 /// How many priorities have a shift.
 pub const SHIFTS: usize = 33;
+
+/// What stands in the place of a move where the opponent moves.
+pub const NO_MOVE: u32 = u32::MAX;
 
 // The greatest shift, which is that of all priorities past those.
 const LAST_SHIFT: u32 = 63;
@@ -41,13 +44,6 @@ pub struct Proposals {
     pub width: u32,
     pub even: PlayerLayout,
     pub odd: PlayerLayout,
-}
-
-/// What is asked of an edge: that a value reaches the next one, or that it is a reason for what the value has at a digit.
-#[derive(Clone, Copy)]
-enum Demand {
-    Reach,
-    Reason(usize),
 }
 
 /// A vertex of a player's game of so many components, with the value that is proposed for it.
@@ -106,14 +102,20 @@ impl Proposals {
         }
     }
 
-    // The value that is proposed for a player at a vertex.
-    #[inline(always)]
-    fn proposed(&self, player: Player, v: u32) -> ProposedValue<'_>
+    /// Who is said to win a vertex.
+    pub fn winner(&self, v: u32) -> Player
         requires { v < length self.now.numbers.items }
-        ensures value { value_said result ≡ value_at (values_of player self.now) v }
+        ensures { result ≡ winner_at self.now v }
+    {
+        winner(self.numbers[v as usize])
+    }
+
+    // What a number says of a player's value.
+    #[inline(always)]
+    fn said(&self, player: Player, number: u64) -> ProposedValue<'_>
+        ensures value { value_said result ≡ value_of player (layout_of player self.now) number }
         ensures layout { result.layout.now ≡ layout_of player self.now }
     {
-        let number = self.numbers[v as usize];
         ProposedValue {
             layout: self.layout(player),
             number,
@@ -121,13 +123,25 @@ impl Proposals {
         }
     }
 
-    /// The value that is proposed for a player at a vertex.
+    // The value that is proposed for a player at a vertex.
     #[inline(always)]
-    pub fn value(&self, player: Player, v: u32) -> Measure
+    fn proposed(&self, player: Player, v: u32) -> ProposedValue<'_>
         requires { v < length self.now.numbers.items }
+        ensures value { value_said result ≡ value_at (values_of player self.now) v }
+        ensures layout { result.layout.now ≡ layout_of player self.now }
+    {
+        self.said(player, self.numbers[v as usize])
+    }
+
+    /// The value that is proposed for a player at a vertex, and top where there is no such vertex.
+    #[inline(always)]
+    pub fn value(&self, player: Player, v: usize) -> Measure
         ensures { result ≡ value_at (values_of player self.now) v }
     {
-        self.proposed(player, v).measure()
+        match self.numbers.get(v) {
+            Some(number) => self.said(player, *number).measure(),
+            None => Measure::top(),
+        }
     }
 
     #[inline(always)]
@@ -156,6 +170,7 @@ impl Proposals {
     }
 
     // Whether an edge is a reason for what the value of a vertex has at a digit.
+    #[tactic(auto, unfolding(crate::specs::Proposal::IsReason))]
     fn is_reason(&self, at: &ProposedVertex<'_>, digit: usize, next: u32) -> bool
         requires own { value_said at.now.own ≡ value_at (values_of at.now.player self.now) at.now.v }
         requires layout { at.now.own.layout.now ≡ layout_of at.now.player self.now }
@@ -178,44 +193,84 @@ impl Proposals {
         }
     }
 
-    // Whether an edge meets what is asked of it.
-    fn meets(&self, at: &ProposedVertex<'_>, demand: Demand, next: u32) -> bool
+    // Whether the value of a vertex reaches that of the next one.
+    #[inline(always)]
+    fn reaches(&self, at: &ProposedVertex<'_>, next: u32) -> bool
         requires own { value_said at.now.own ≡ value_at (values_of at.now.player self.now) at.now.v }
         requires layout { at.now.own.layout.now ≡ layout_of at.now.player self.now }
-        requires digit { (digit : ℕ) → demand ≡ Demand.Reason digit → digit ≤ at.now.width }
-        requires few { at.now.width ≤ COMPONENTS }
         requires next { next < length self.now.numbers.items }
-        ensures { (g : Game) → length (components g) ≡ at.now.width
-            → IsTrue result → Meets (proposal_in at.now.player self.now g) demand at.now.priority at.now.v next }
+        ensures { (g : Game) → length (components g) ≡ at.now.width → (IsTrue result ↔ ReachesFrom g (values_of at.now.player self.now) at.now.priority at.now.v next) }
     {
-        match demand {
-            Demand::Reach => {
-                let other = self.proposed(at.player, next);
-                at.own.reaches(other, at.priority, at.width)
+        let other = self.proposed(at.player, next);
+        at.own.reaches(other, at.priority, at.width)
+    }
+
+    // The first successor that the value of a vertex reaches.
+    fn first_reached(&self, at: &ProposedVertex<'_>, successors: &[u32]) -> Option<u32>
+        requires own { value_said at.now.own ≡ value_at (values_of at.now.player self.now) at.now.v }
+        requires layout { at.now.own.layout.now ≡ layout_of at.now.player self.now }
+        requires inside { AllByRecursion (λ t. t < length self.now.numbers.items) successors.now }
+        ensures { IfSome result (λ next. (g : Game) → length (components g) ≡ at.now.width
+            → IsFirstOf (ReachesFrom g (values_of at.now.player self.now) at.now.priority at.now.v) successors.now next) }
+    {
+        for next in successors {
+            if self.reaches(at, *next) {
+                return Some(*next);
             }
-            Demand::Reason(digit) => self.is_reason(at, digit, next),
+        }
+        None
+    }
+
+    // Whether the value of a vertex reaches all successors.
+    fn reaches_all(&self, at: &ProposedVertex<'_>, successors: &[u32]) -> bool
+        requires own { value_said at.now.own ≡ value_at (values_of at.now.player self.now) at.now.v }
+        requires layout { at.now.own.layout.now ≡ layout_of at.now.player self.now }
+        requires inside { AllByRecursion (λ t. t < length self.now.numbers.items) successors.now }
+        ensures { (g : Game) → length (components g) ≡ at.now.width
+            → IsTrue result → (t : ℕ) → Contains successors.now t → ReachesFrom g (values_of at.now.player self.now) at.now.priority at.now.v t }
+    {
+        for next in successors {
+            if !self.reaches(at, *next) {
+                return false;
+            }
+        }
+        true
+    }
+
+    // The move of a vertex of this owner, if its value reaches enough: the first successor that it reaches where the player chooses.
+    fn move_of(&self, at: &ProposedVertex<'_>, owner: Player, successors: &[u32]) -> Option<u32>
+        requires own { value_said at.now.own ≡ value_at (values_of at.now.player self.now) at.now.v }
+        requires layout { at.now.own.layout.now ≡ layout_of at.now.player self.now }
+        requires inside { AllByRecursion (λ t. t < length self.now.numbers.items) successors.now }
+        ensures { IfSome result (λ next. (g : Game) → length (components g) ≡ at.now.width
+            → IsFirstMoveBy owner (ReachesFrom g (values_of at.now.player self.now) at.now.priority at.now.v) successors.now next) }
+    {
+        match owner {
+            Player::Even => self.first_reached(at, successors),
+            Player::Odd if self.reaches_all(at, successors) => Some(NO_MOVE),
+            Player::Odd => None,
         }
     }
 
-    // Whether all of these edges meet what is asked of them, or one of them does, as this player would have it.
+    // Whether all of these edges are reasons for what the value of a vertex has at a digit, or one of them is, as this player would have it.
     fn are_enough(
         &self,
         at: &ProposedVertex<'_>,
-        demand: Demand,
+        digit: usize,
         asker: Player,
         successors: &[u32],
     ) -> bool
         requires own { value_said at.now.own ≡ value_at (values_of at.now.player self.now) at.now.v }
         requires layout { at.now.own.layout.now ≡ layout_of at.now.player self.now }
-        requires digit { (digit : ℕ) → demand ≡ Demand.Reason digit → digit ≤ at.now.width }
+        requires digit { digit ≤ at.now.width }
         requires few { at.now.width ≤ COMPONENTS }
         requires inside { AllByRecursion (λ t. t < length self.now.numbers.items) successors.now }
         ensures { (g : Game) → length (components g) ≡ at.now.width
-            → IsTrue result → AreEnough asker (Meets (proposal_in at.now.player self.now g) demand at.now.priority at.now.v) successors.now }
+            → IsTrue result → AreEnough asker (IsReason (proposal_in at.now.player self.now g) digit at.now.priority at.now.v) successors.now }
     {
         let one_is_enough = asker == Player::Odd;
         for t in successors {
-            if self.meets(at, demand, *t) == one_is_enough {
+            if self.is_reason(at, digit, *t) == one_is_enough {
                 return one_is_enough;
             }
         }
@@ -233,26 +288,33 @@ impl Proposals {
             → IsTrue result → (digit : ℕ) → digit ≤ at.now.width → HasReasonsFor (proposal_in at.now.player self.now g) digit at.now.v }
     {
         for digit in 0..=at.width {
-            if at.own.digit(digit) != 0
-                && !self.are_enough(at, Demand::Reason(digit), owner, successors)
-            {
+            if at.own.digit(digit) != 0 && !self.are_enough(at, digit, owner, successors) {
                 return false;
             }
         }
         true
     }
 
-    /// Whether the value that is proposed for a player at a vertex of the player's game is good, where the game's counts have these bounds.
-    pub fn is_good_at(&self, player: Player, bounds: &[u32], v: u32, vertex: VertexView<'_>) -> bool
+    /// The player's move at a vertex of the player's game, whose counts have these bounds, if the value that is proposed there is good: the first successor
+    /// that it reaches where the player chooses, and `NO_MOVE` where the opponent does.
+    pub fn good_move(
+        &self,
+        player: Player,
+        bounds: &[u32],
+        v: u32,
+        vertex: VertexView<'_>,
+    ) -> Option<u32>
         requires vertex { v < length self.now.numbers.items }
         requires inside { AllByRecursion (λ t. t < length self.now.numbers.items) vertex.successors.now }
-        ensures { IsTrue result → (g : Game) → vertex_at g v ≡ Some (lent_vertex vertex.entry) → AreBoundsIn g bounds.now
-            → IsGoodVertex (proposal_in player self.now g) v }
+        ensures good { IfSome result (λ _. (g : Game) → vertex_at g v ≡ Some (lent_vertex vertex.entry) → AreBoundsIn g bounds.now
+            → IsGoodVertex (proposal_in player self.now g) v) }
+        ensures next { IfSome result (λ next. (g : Game) → vertex_at g v ≡ Some (lent_vertex vertex.entry) → AreBoundsIn g bounds.now
+            → IsFirstMove g (values_of player self.now) v next) }
     {
         let own = self.proposed(player, v);
         let width = bounds.len();
         if width > COMPONENTS || !(own.is_top || are_within(own.measure().counts(), bounds)) {
-            return false;
+            return None;
         }
         let at = ProposedVertex {
             player,
@@ -266,7 +328,11 @@ impl Proposals {
             successors,
             ..
         } = vertex;
-        self.are_enough(&at, Demand::Reach, owner.opponent(), successors)
-            && self.has_reasons(&at, owner, successors)
+        let next = self.move_of(&at, owner, successors)?;
+        if self.has_reasons(&at, owner, successors) {
+            Some(next)
+        } else {
+            None
+        }
     }
 }

@@ -257,7 +257,7 @@ impl Settled {
         let vertices = game.vertices();
         let mut rows = MeasureRows::zeros(alloc, vertices as usize, width(game))?;
         for v in 0..vertices {
-            rows.set(v as usize, &proposals.value(player, v));
+            rows.set(v as usize, &proposals.value(player, v as usize));
         }
         Ok(Settled::of_rows(rows, Snapshot::of(game)))
     }

@@ -2,19 +2,16 @@
 
 use console::files::Files;
 use console::input::{CountedInput, label_hasher, open};
-use console::line::ProgressLine;
+use console::line::{ProgressLine, TimedRuntime};
 use console::output::Output;
 use console::refusal::Refusal;
 use console::stats::Stats;
 use engines::engine::check_asked;
 use engines::request::Check;
 use engines::writers::Writers;
-use std::sync::Wait;
-use std::thread::Threads;
-use std::time::Clock;
 
 /// Both files are opened, in the order of the command line, before the first is read.
-pub fn run_check<T: Threads + Wait + Clock + Clone + Copy + Drop + Send + Sync + 'static>(
+pub fn run_check<T: TimedRuntime>(
     rt: &HostRuntime,
     threads: &T,
     request: &Check<'_>,
@@ -38,7 +35,7 @@ pub fn run_check<T: Threads + Wait + Clock + Clone + Copy + Drop + Send + Sync +
 }
 
 /// Writes what is asked for to the files, and then the report.
-fn write_files<T: Threads + Wait + Clock + Clone + Copy + Drop + Send + Sync + 'static>(
+fn write_files<T: TimedRuntime>(
     rt: &HostRuntime,
     threads: &T,
     request: &Check<'_>,

@@ -14,7 +14,7 @@ use command_line::line::command;
 use command_line::request::Command;
 use console::files::Files;
 use console::input::take_descriptors;
-use console::line::ProgressLine;
+use console::line::{ProgressLine, TimedRuntime};
 use console::output::Output;
 use console::refusal::{Refusal, tell};
 use console::solve::run_solve;
@@ -26,9 +26,6 @@ use lts::put;
 use std::env;
 use std::io::ErrorKind;
 use std::process::ExitCode;
-use std::sync::Wait;
-use std::thread::Threads;
-use std::time::Clock;
 
 fn main(rt: HostRuntime) -> ExitCode {
     let taken = take_descriptors(&rt);
@@ -41,11 +38,7 @@ fn main(rt: HostRuntime) -> ExitCode {
 }
 
 // The status with which the program ends. Threads are handed on apart, since `main` alone has them.
-fn run<T: Threads + Wait + Clock + Clone + Copy + Drop + Send + Sync + 'static>(
-    rt: &HostRuntime,
-    threads: &T,
-    words: &[String],
-) -> u8 {
+fn run<T: TimedRuntime>(rt: &HostRuntime, threads: &T, words: &[String]) -> u8 {
     match command(rt.alloc(), words) {
         Ok(command) => ended(rt, &command.files(), run_command(rt, threads, &command)),
         Err(error) => ended(rt, &[None; 4], Err(Refusal::from(error))),
@@ -65,7 +58,7 @@ fn ended(rt: &HostRuntime, files: &[Option<&str>; 4], found: Result<u8, Refusal>
 }
 
 /// That no file is destroyed is seen to before any is opened.
-fn run_command<T: Threads + Wait + Clock + Clone + Copy + Drop + Send + Sync + 'static>(
+fn run_command<T: TimedRuntime>(
     rt: &HostRuntime,
     threads: &T,
     command: &Command<'_>,
@@ -88,7 +81,7 @@ fn run_command<T: Threads + Wait + Clock + Clone + Copy + Drop + Send + Sync + '
 }
 
 /// Writes a text that was asked for.
-fn show<T: Threads + Wait + Clock + Clone + Copy + Drop + Send + Sync + 'static>(
+fn show<T: TimedRuntime>(
     rt: &HostRuntime,
     threads: &T,
     text: Result<String, MuError>,

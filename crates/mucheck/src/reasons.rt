@@ -1,18 +1,15 @@
 // The command `why`.
 
 use console::input::{CountedInput, label_hasher, open};
-use console::line::ProgressLine;
+use console::line::{ProgressLine, TimedRuntime};
 use console::output::Output;
 use console::refusal::Refusal;
 use console::stats::Stats;
 use engines::reasons::tell_why;
 use engines::request::Why;
-use std::sync::Wait;
-use std::thread::Threads;
-use std::time::Clock;
 
 /// Both files are opened, in the order of the command line, before the first is read.
-pub fn run_why<T: Threads + Wait + Clock + Clone + Copy + Drop + Send + Sync + 'static>(
+pub fn run_why<T: TimedRuntime>(
     rt: &HostRuntime,
     threads: &T,
     request: &Why<'_>,

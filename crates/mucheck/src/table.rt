@@ -2,7 +2,7 @@
 
 use console::fault::{note_expectation, tell_fault};
 use console::input::{CountedInput, Input, open};
-use console::line::ProgressLine;
+use console::line::{ProgressLine, TimedRuntime};
 use console::output::Output;
 use console::refusal::{Refusal, tell};
 use console::stats::Stats;
@@ -16,8 +16,6 @@ use lts::system::Lts;
 use lts::{WriteFault, put};
 use std::alloc::AllocError;
 use std::sync::Wait;
-use std::thread::Threads;
-use std::time::Clock;
 use table_lines::table::table_line;
 
 /// The status of a line whose formula is at fault.
@@ -25,7 +23,7 @@ const AT_FAULT: u8 = 2;
 
 /// Reads the system once, and writes a line for each formula as soon as it is known. It answers the greatest of their statuses. Notes on words that
 /// no label has, what is to be told of refusals, and how many lines there are of each kind go to standard error.
-pub fn run_table<T: Threads + Wait + Clock + Clone + Copy + Drop + Send + Sync + 'static>(
+pub fn run_table<T: TimedRuntime>(
     rt: &HostRuntime,
     threads: &T,
     request: &Table<'_>,
@@ -58,7 +56,7 @@ pub fn run_table<T: Threads + Wait + Clock + Clone + Copy + Drop + Send + Sync +
 }
 
 /// Writes the line of the file of this name, which is shown so, and answers its status.
-fn write_answer<T: Threads + Wait + Clock + Clone + Copy + Drop + Send + Sync + 'static>(
+fn write_answer<T: TimedRuntime>(
     rt: &HostRuntime,
     threads: &T,
     request: &Table<'_>,
@@ -74,7 +72,7 @@ fn write_answer<T: Threads + Wait + Clock + Clone + Copy + Drop + Send + Sync + 
 }
 
 /// Writes the line of a file that can't be opened, and answers its status. Standard error tells why.
-fn write_unopened<T: Threads + Wait + Clock + Clone + Copy + Drop + Send + Sync + 'static>(
+fn write_unopened<T: TimedRuntime>(
     rt: &HostRuntime,
     threads: &T,
     shown: &str,
@@ -102,7 +100,7 @@ fn put_unopened<T: Wait>(out: &mut Output<'_, T>, shown: &str) -> Result<(), Wri
 }
 
 /// Writes the line of a formula's file, and answers its status. Where the formula is at fault, standard error tells the place.
-fn write_line<T: Threads + Wait + Clock + Clone + Copy + Drop + Send + Sync + 'static>(
+fn write_line<T: TimedRuntime>(
     rt: &HostRuntime,
     threads: &T,
     request: &Table<'_>,

@@ -1,16 +1,18 @@
 -- What is proposed is good at each vertex of an arena.
-use Rattle.std.proofs.Common.{◌≡◌, ℕ, zero, suc, ◌+◌, ◌*◌, ◌<◌, ◌≤◌, List, [], ◌∷◌, length, map, refl, sym, ap, subst, ◌∙◌, inl, inr, arith}
+use Rattle.std.proofs.Common.{◌≡◌, ℕ, zero, suc, ◌+◌, ◌*◌, ◌<◌, ◌≤◌, List, [], ◌∷◌, ◌++◌, length, map, refl, sym, ap, subst, ◌∙◌, inl, inr, arith}
 use Rattle.std.proofs.Common.{Bool, Vec, Global}
-use Rattle.std.specs.Prelude.{Some, slice_get, slice_index_or}
+use Rattle.std.specs.Prelude.{None, Some, if◌then◌else◌, slice_get, slice_index_or}
 use Rattle.std.specs.List.{AllByRecursion}
-use Rattle.std.proofs.lemmas.List.{get_or-map, length-map}
+use Rattle.std.proofs.lemmas.Bool.Decides.{eqb_tells}
+use Rattle.std.proofs.lemmas.List.{get_or-map, get_or_append_left, get_or_at, length-append, length-map}
 use Rattle.std.proofs.lemmas.List.Elements.{All-from_recursion}
-use Rattle.std.proofs.lemmas.Option.{get_or_from_slice_get, slice_get_cases, slice_get_within}
+use Rattle.std.proofs.lemmas.Option.{get_or_from_slice_get, slice_get_within}
 use Rattle.systems.specs.System.{System}
 use Rattle.systems.specs.Numbered.{Numbered}
 use Rattle.systems.specs.declared.system.Transition.{Transition}
 use Rattle.calculus.specs.Form.{IsForm}
 use Rattle.calculus.specs.Nodes.{Node}
+use Rattle.calculus.specs.Normal.{normal_nodes}
 use Rattle.calculus.specs.Taken.{AreSets, IsSetFor, is_in}
 use Rattle.game.specs.declared.player.Player.{Player}
 use Rattle.game.specs.declared.player.Player.TheVariants.{Even, Odd}
@@ -18,16 +20,21 @@ use Rattle.game.specs.Arena.{arena, place, vertex_of}
 use Rattle.game.specs.Steps.{IsRowOf, picks, vertex_by}
 use Rattle.game.specs.Game.{Game, IsGame, IsVertex, Vertex, dual, vertex}
 use Rattle.measures.specs.Progress.{IsLeastTable}
-use Rattle.measures.specs.Proposal.{IsGoodVertex}
-use Rattle.measures.specs.StoredProposal.{layout_of, proposal_in, shift_in, value_of, values_of}
+use Rattle.measures.specs.Laws.{IsBestMove}
+use Rattle.measures.specs.Measure.{Measure}
+use Rattle.measures.specs.Proposal.{IsGoodVertex, IsFirstMove, IsFirstMoveBy, ReachesFrom}
+use Rattle.measures.specs.StoredProposal.{game_for, layout_of, move_said, proposal_in, shift_in, value_of, values_of, winner_at}
 use Rattle.measures.specs.declared.proposal.Proposals.{Proposals}
-use Rattle.rankings.specs.Least.{AreGoodAt, AreGoodStates}
+use Rattle.rankings.specs.Least.{AreTestedTo, AreWinnersMoves, IsTestedAt, tested_arena}
+use Rattle.rankings.specs.declared.least.LeastTest.{LeastTest}
 use Rattle.game.proofs.Lending.{dual_is_game}
 use Rattle.game.proofs.Duals.{long_dual}
 use Rattle.game.proofs.Arenas.{arena_is_game, arena_low}
 use Rattle.game.proofs.Steps.{vertex_is as step_vertex_is}
 use Rattle.laws.proofs.Vertices.{vertex_is}
-use Rattle.rankings.proofs.Places.{arena_long, each_vertex}
+use Rattle.rankings.proofs.Places.{arena_long}
+use Rattle.measures.proofs.Lists.{all_contained, all_got}
+use Rattle.measures.proofs.Moves.{first_reached}
 use Rattle.measures.proofs.Proposals.{good_least}
 
 -- the vertex of a state with a node is within a game's limits
@@ -77,15 +84,6 @@ sink_is l nodes zero h = refl
 sink_is l nodes (suc zero) h = refl
 sink_is l nodes (suc (suc v)) h = absurd (omega arith)
 
--- what is good at the sinks and at each state is good at each vertex
-pub all_good : (c : Proposals) (l : System) (nodes : List Node) → ((v : ℕ) → v < 2 → AreGoodAt c (arena l nodes) v) → AreGoodStates l nodes c 0 l.states
-    → (v : ℕ) → v < length (arena l nodes).vertices → AreGoodAt c (arena l nodes) v
-all_good c l nodes sinks states v inside = elim ((slice_get_cases (arena l nodes).vertices v).1) [
-  | inl w ↦ each_vertex l nodes (λ u x. AreGoodAt c (arena l nodes) u) (sinks 0 (omega arith)) (sinks 1 (omega arith))
-      (λ s k node below at low. states s k (omega arith) below low) v w.0 w.2
-  | inr w ↦ (let past = w.0 in absurd (omega arith))
-]
-
 -- the values of a player
 pub least_for : (player : Player) (c : Proposals) (g : Game) → IsGame g → length c.numbers.items ≡ length g.vertices
     → ((p : ℕ) → shift_in (layout_of player c) p ≤ shift_in (layout_of player c) (suc p))
@@ -96,17 +94,85 @@ least_for player c g game long rising good = good_least (proposal_in player c g)
   vertices = good;
 })
 
-module _ (c : Proposals) (l : System) (nodes : List Node) (form : IsForm nodes) (few : 2 + l.states * length nodes ≤ 16777216)
-    (long : length c.numbers.items ≡ 2 + l.states * length nodes) (sinks : (v : ℕ) → v < 2 → AreGoodAt c (arena l nodes) v)
-    (states : AreGoodStates l nodes c 0 l.states) where
+-- What Even goes on to is the best move by the least table.
+module _ (g : Game) (game : IsGame g) (table : List Measure) (least : IsLeastTable g table) (v next : ℕ) (x : Vertex) (at : vertex g v ≡ Some x) where
+  said_some : next < 4294967295 → move_said next ≡ Some next
+  said_some h = elim (eqb_tells next 4294967295) [
+    | inl w ↦ (let e = w.1 in absurd (omega (arith, e, h)))
+    | inr w ↦ ap (λ (b : Bool). if b then None else Some next) w.0
+  ]
+
+  by : (o : Player) → x.owner ≡ o → IsFirstMoveBy o (ReachesFrom g table x.priority v) x.successors next → IsBestMove g table x (move_said next)
+  by Even own m =
+      let is = first_reached g game table least v x at own m.place m.before next m.inside m.there m.holds in
+      let inside = all_contained (λ t. t < length g.vertices) x.successors next (all_got (IsVertex (length g.vertices)) g.vertices v x game.vertices at).within
+      is.0.successor in
+      subst (IsBestMove g table x) (sym (said_some (let few = game.limit in omega (arith, inside, few)))) (own, is.0, is.1)
+  by Odd own m = subst (λ n. IsBestMove g table x (move_said n)) (sym m.0) own
+
+  pub best_move : IsFirstMove g table v next → IsBestMove g table x (move_said next)
+  best_move (y, there, move) = by x.owner refl (subst (λ (z : Vertex). IsFirstMoveBy z.owner (ReachesFrom g table z.priority v) z.successors next)
+      (some_same y x (sym there ∙ at)) move)
+    where
+      some_same : (a b : Vertex) → Some a ≡ Some b → a ≡ b
+      some_same a b e = cc
+
+-- one more vertex
+pub tested_more : (t : LeastTest) (moves : List ℕ) (n next : ℕ) → AreTestedTo t moves n → IsTestedAt t.proposals.now (tested_arena t) n next
+    → AreTestedTo t (moves ++ (next ∷ [])) (n + 1)
+tested_more t moves n next before here = record { count = (let l = length-append moves (next ∷ []) in let old = before.count in omega arith); each = each }
+  where
+    each : (v : ℕ) → v < n + 1 → IsTestedAt t.proposals.now (tested_arena t) v (slice_index_or (moves ++ (next ∷ [])) v 0)
+    each v h = elim (eqb_tells v n) [
+      | inl w ↦ subst (λ u. IsTestedAt t.proposals.now (tested_arena t) u (slice_index_or (moves ++ (next ∷ [])) u 0)) (sym w.1)
+          (subst (IsTestedAt t.proposals.now (tested_arena t) n) (sym (get_or_at moves next [] 0 n before.count)) here)
+      | inr w ↦ (
+          let differs = w.1 in
+          let below : v < n = omega arith in
+          subst (IsTestedAt t.proposals.now (tested_arena t) v)
+          (sym (get_or_append_left moves (next ∷ []) 0 v (subst (λ m. v < m) (sym before.count) below))) (before.each v below))
+    ]
+
+-- where all vertices are tested
+module _ (t : LeastTest) (few : 2 + t.lts.now.system.states * length (normal_nodes t.form.now) ≤ 16777216)
+    (numbers : length t.proposals.now.numbers.items ≡ 2 + t.lts.now.system.states * length (normal_nodes t.form.now)) (form : IsForm (normal_nodes t.form.now))
+    (moves : List ℕ)
+    (tested : AreTestedTo t moves (length t.proposals.now.numbers.items)) where
   abbrev g : Game
-  g = arena l nodes
+  g = tested_arena t
 
-  pub even_least : ((p : ℕ) → shift_in c.even p ≤ shift_in c.even (suc p)) → IsLeastTable (arena l nodes) (values_of Even c)
-  even_least rising = least_for Even c g (arena_is_game l nodes form few) (long ∙ sym (arena_long l nodes)) rising
-      (λ v h. (all_good c l nodes sinks states v h).0)
+  game : IsGame g
+  game = arena_is_game t.lts.now.system (normal_nodes t.form.now) form few
 
-  pub odd_least : ((p : ℕ) → shift_in c.odd p ≤ shift_in c.odd (suc p)) → IsLeastTable (dual (arena l nodes)) (values_of Odd c)
-  odd_least rising = least_for Odd c (dual g) (dual_is_game g (arena_is_game l nodes form few) (arena_low l nodes form))
-      (long ∙ (sym (arena_long l nodes) ∙ sym (long_dual g))) rising
-      (λ v h. (all_good c l nodes sinks states v (let e = long_dual g in omega arith)).1)
+  dual_game : IsGame (dual g)
+  dual_game = dual_is_game g game (arena_low t.lts.now.system (normal_nodes t.form.now) form)
+
+  long : length t.proposals.now.numbers.items ≡ length g.vertices
+  long = numbers ∙ sym (arena_long t.lts.now.system (normal_nodes t.form.now))
+
+  pub even_least : ((p : ℕ) → shift_in t.proposals.now.even p ≤ shift_in t.proposals.now.even (suc p)) → IsLeastTable g (values_of Even t.proposals.now)
+  even_least rising = least_for Even t.proposals.now g game long rising (λ v h. (tested.each v (let l = long in omega arith)).even)
+
+  pub odd_least : ((p : ℕ) → shift_in t.proposals.now.odd p ≤ shift_in t.proposals.now.odd (suc p)) → IsLeastTable (dual g) (values_of Odd t.proposals.now)
+  odd_least rising = least_for Odd t.proposals.now (dual g) dual_game (long ∙ sym (long_dual g)) rising
+      (λ v h. (tested.each v (let l = long in let e = long_dual g in omega arith)).odd)
+
+  module _ (even : (p : ℕ) → shift_in t.proposals.now.even p ≤ shift_in t.proposals.now.even (suc p))
+      (odd : (p : ℕ) → shift_in t.proposals.now.odd p ≤ shift_in t.proposals.now.odd (suc p)) where
+    best : (p : Player) (v next : ℕ) (x : Vertex) → vertex (game_for p g) v ≡ Some x → IsFirstMove (game_for p g) (values_of p t.proposals.now) v next
+        → IsBestMove (game_for p g) (values_of p t.proposals.now) x (move_said next)
+    best Even v next x at move = best_move g game (values_of Even t.proposals.now) (even_least even) v next x at move
+    best Odd v next x at move = best_move (dual g) dual_game (values_of Odd t.proposals.now) (odd_least odd) v next x at move
+
+    long_for : (p : Player) → length (game_for p g).vertices ≡ length g.vertices
+    long_for Even = refl
+    long_for Odd = long_dual g
+
+    pub winners_moves : AreWinnersMoves t.proposals.now g moves
+    winners_moves = record {
+      count = tested.count;
+      best = λ v x at.
+          let p = winner_at t.proposals.now v in
+          let inside = slice_get_within (game_for p g).vertices v x at in
+          best p v (slice_index_or moves v 0) x at (tested.each v (let l = long in let e = long_for p in omega arith)).move;
+    }

@@ -1,19 +1,18 @@
-// Whether proposals are the least progress tables of both players in an arena that isn't stored.
+// Whether proposals are the least progress tables of both players in an arena that isn't stored, and where the winners go on then.
 
-ghost use Rattle.std.specs.Prelude.{◌≡◌, ◌+◌, ◌*◌, ◌<◌, ◌≤◌, ◌==◌, ℕ, IfOk, IsTrue, List, Some, count_by, length, map, max};
+ghost use Rattle.std.specs.Prelude.{◌≡◌, ◌+◌, ◌*◌, ◌<◌, ◌≤◌, ◌==◌, IfOk, IfSome, IsTrue, List, Some, count_by, length, max};
 ghost use Rattle.std.specs.List.{AllByRecursion};
 ghost use Rattle.systems.specs.System.{System};
 ghost use Rattle.calculus.specs.Nodes.{Node, greatest_node_priority};
 ghost use Rattle.calculus.specs.Normal.{normal_nodes};
-ghost use Rattle.calculus.specs.Taken.{AreSets};
 ghost use Rattle.game.specs.declared.limits.TheConstants.{MOST_VERTICES};
 ghost use Rattle.game.specs.declared.player.Player.TheVariants.{Even, Odd};
-ghost use Rattle.game.specs.Arena.{arena};
+ghost use Rattle.game.specs.Arena.{arena, place};
 ghost use Rattle.game.specs.Game.{Game, dual, vertex as vertex_at};
 ghost use Rattle.game.specs.Lent.{lent_vertex};
 ghost use Rattle.measures.specs.Progress.{IsLeastTable};
 ghost use Rattle.measures.specs.StoredProposal.{AreBoundsIn, game_for, values_of};
-ghost use Rattle.rankings.specs.Least.{AreGoodAt, AreGoodStates, risen_of};
+ghost use Rattle.rankings.specs.Least.{AreTestedTo, AreWinnersMoves, IsLeastTest, IsTestedAt, risen_of};
 
 use arrayvec::ArrayVec;
 use calculus::form::Normal;
@@ -31,6 +30,16 @@ use systems::system::{Lts, Transition};
 struct ArenaBounds {
     even: ArrayVec<u32, 16>,
     odd: ArrayVec<u32, 16>,
+}
+
+/// Proposals for the arena of a system and a normal form, with the labels that modalities take.
+#[derive(Clone, Copy)]
+struct LeastTest<'a> {
+    lts: &'a Lts,
+    form: &'a Normal,
+    sets: &'a [Vec<bool>],
+    proposals: &'a Proposals,
+    bounds: &'a ArenaBounds,
 }
 
 // How many nodes have this priority.
@@ -87,119 +96,112 @@ fn bounds_for(form: &Normal, states: u32, player: Player) -> ArrayVec<u32, 16>
     bounds
 }
 
-// Whether what is proposed for both players at a vertex is good.
-fn is_good_at(proposals: &Proposals, bounds: &ArenaBounds, v: u32, vertex: VertexView<'_>) -> bool
+// The winner's move at a vertex, if what is proposed there for both players is good.
+fn good_move(
+    proposals: &Proposals,
+    bounds: &ArenaBounds,
+    v: u32,
+    vertex: VertexView<'_>,
+) -> Option<u32>
     requires vertex { v < length proposals.now.numbers.items }
     requires inside { AllByRecursion (λ t. t < length proposals.now.numbers.items) vertex.successors.now }
     requires few { vertex.priority < 255 }
-    ensures { IsTrue result → (g : Game) → vertex_at g v ≡ Some (lent_vertex vertex.entry) → AreBoundsIn g bounds.now.even.items
-        → AreBoundsIn (dual g) bounds.now.odd.items → AreGoodAt proposals.now g v }
+    ensures { IfSome result (λ next. (g : Game) → vertex_at g v ≡ Some (lent_vertex vertex.entry) → AreBoundsIn g bounds.now.even.items
+        → AreBoundsIn (dual g) bounds.now.odd.items → IsTestedAt proposals.now g v next) }
 {
-    proposals.is_good_at(Player::Even, bounds.even.as_slice(), v, vertex)
-        && proposals.is_good_at(Player::Odd, bounds.odd.as_slice(), v, vertex.turned())
-}
-
-// Whether what is proposed at the sinks is good.
-fn are_good_sinks(proposals: &Proposals, bounds: &ArenaBounds) -> bool
-    requires { 2 ≤ length proposals.now.numbers.items }
-    ensures { IsTrue result → (l : System) (nodes : List Node) → AreBoundsIn (arena l nodes) bounds.now.even.items
-        → AreBoundsIn (dual (arena l nodes)) bounds.now.odd.items → (v : ℕ) → v < 2 → AreGoodAt proposals.now (arena l nodes) v }
-{
-    for sink in 0..2 {
-        let vertex = VertexView {
-            owner: Player::Even,
-            priority: sink as u8,
-            successors: &[sink],
-        };
-        if !is_good_at(proposals, bounds, sink, vertex) {
-            return false;
-        }
+    let turned = vertex.turned();
+    let even = proposals.good_move(Player::Even, bounds.even.as_slice(), v, vertex)?;
+    let odd = proposals.good_move(Player::Odd, bounds.odd.as_slice(), v, turned)?;
+    match proposals.winner(v) {
+        Player::Even => Some(even),
+        Player::Odd => Some(odd),
     }
-    true
 }
 
-// Whether what is proposed at the vertices of a state is good. Both lists are lent for rows.
-fn is_good_state(
-    lts: &Lts,
-    form: &Normal,
-    sets: &[Vec<bool>],
-    proposals: &Proposals,
-    bounds: &ArenaBounds,
-    state: u32,
-    row: &mut Vec<Transition>,
-    reached: &mut Vec<u32>,
-) -> Result<bool, AllocError>
-    requires state { state < lts.now.system.states }
-    requires sets { AreSets lts.now.labels (normal_nodes form.now) (map (λ set. set.items) sets.now) }
-    requires count { length sets.now ≡ length (normal_nodes form.now) }
-    requires few { 2 + lts.now.system.states * length (normal_nodes form.now) ≤ MOST_VERTICES }
-    requires long { length proposals.now.numbers.items ≡ 2 + lts.now.system.states * length (normal_nodes form.now) }
-    requires even { AreBoundsIn (arena lts.now.system (normal_nodes form.now)) bounds.now.even.items }
-    requires odd { AreBoundsIn (dual (arena lts.now.system (normal_nodes form.now))) bounds.now.odd.items }
-    ensures { IfOk result (λ good. IsTrue good → AreGoodStates lts.now.system (normal_nodes form.now) proposals.now state (state + 1)) }
-{
-    form.known();
-    // For the proof: the clauses of this call say what the system has.
-    let _states = lts.states();
-    by_target(row, lts, state)?;
-    let nodes = form.count();
-    for number in 0..nodes {
-        let set = sets[number as usize].as_slice();
-        let vertex = vertex_in(reached, row, set, nodes, state, form.node(number))?;
-        if !is_good_at(proposals, bounds, 2 + (state * nodes + number), vertex) {
-            return Ok(false);
+impl LeastTest<'_> {
+    // Tests the sinks, and adds their moves.
+    fn test_sinks(&self, moves: &mut Vec<u32>) -> Result<bool, AllocError>
+        requires known { IsLeastTest self.now }
+        requires none { AreTestedTo self.now moves.old.items 0 }
+        ensures { IfOk result (λ good. IsTrue good → AreTestedTo self.now moves.new.items 2) }
+    {
+        for sink in 0..2 {
+            let vertex = VertexView {
+                owner: Player::Even,
+                priority: sink as u8,
+                successors: &[sink],
+            };
+            match good_move(self.proposals, self.bounds, sink, vertex) {
+                Some(next) => moves.push(next)?,
+                None => return Ok(false),
+            }
         }
+        Ok(true)
     }
-    Ok(true)
-}
 
-// Whether what is proposed at the vertices of all states is good.
-fn are_good_states(
-    alloc: Global,
-    lts: &Lts,
-    form: &Normal,
-    sets: &[Vec<bool>],
-    proposals: &Proposals,
-    bounds: &ArenaBounds,
-) -> Result<bool, AllocError>
-    requires sets { AreSets lts.now.labels (normal_nodes form.now) (map (λ set. set.items) sets.now) }
-    requires count { length sets.now ≡ length (normal_nodes form.now) }
-    requires few { 2 + lts.now.system.states * length (normal_nodes form.now) ≤ MOST_VERTICES }
-    requires long { length proposals.now.numbers.items ≡ 2 + lts.now.system.states * length (normal_nodes form.now) }
-    requires even { AreBoundsIn (arena lts.now.system (normal_nodes form.now)) bounds.now.even.items }
-    requires odd { AreBoundsIn (dual (arena lts.now.system (normal_nodes form.now))) bounds.now.odd.items }
-    ensures { IfOk result (λ good. IsTrue good → AreGoodStates lts.now.system (normal_nodes form.now) proposals.now 0 lts.now.system.states) }
-{
-    let mut row = Vec::new(alloc);
-    let mut reached = Vec::new(alloc);
-    for state in 0..lts.states() {
-        if !is_good_state(
-            lts,
-            form,
-            sets,
-            proposals,
-            bounds,
-            state,
-            &mut row,
-            &mut reached,
-        )? {
-            return Ok(false);
+    // Tests the vertices of a state, and adds their moves. Both other lists are lent for rows.
+    fn test_state(
+        &self,
+        state: u32,
+        row: &mut Vec<Transition>,
+        reached: &mut Vec<u32>,
+        moves: &mut Vec<u32>,
+    ) -> Result<bool, AllocError>
+        requires known { IsLeastTest self.now }
+        requires state { state < self.now.lts.now.system.states }
+        requires before { AreTestedTo self.now moves.old.items (place (length (normal_nodes self.now.form.now)) state 0) }
+        ensures { IfOk result (λ good. IsTrue good → AreTestedTo self.now moves.new.items (place (length (normal_nodes self.now.form.now)) (state + 1) 0)) }
+    {
+        self.form.known();
+        // For the proof: the clauses of this call say what the system has.
+        let _states = self.lts.states();
+        by_target(row, self.lts, state)?;
+        let nodes = self.form.count();
+        for number in 0..nodes {
+            let set = self.sets[number as usize].as_slice();
+            let node = self.form.node(number);
+            let vertex = vertex_in(reached, row, set, nodes, state, node)?;
+            let v = 2 + (state * nodes + number);
+            match good_move(self.proposals, self.bounds, v, vertex) {
+                Some(next) => moves.push(next)?,
+                None => return Ok(false),
+            }
         }
+        Ok(true)
     }
-    Ok(true)
+
+    // The moves of all vertices, if all that is proposed is good.
+    fn test_all(&self, alloc: Global) -> Result<Option<Vec<u32>>, AllocError>
+        requires { IsLeastTest self.now }
+        ensures { IfOk result (λ found. IfSome found (λ moves. AreTestedTo self.now moves.items (length self.now.proposals.now.numbers.items))) }
+    {
+        let mut row = Vec::new(alloc);
+        let mut reached = Vec::new(alloc);
+        let mut moves = Vec::with_capacity(alloc, self.proposals.numbers.len())?;
+        if !self.test_sinks(&mut moves)? {
+            return Ok(None);
+        }
+        for state in 0..self.lts.states() {
+            if !self.test_state(state, &mut row, &mut reached, &mut moves)? {
+                return Ok(None);
+            }
+        }
+        Ok(Some(moves))
+    }
 }
 
-// Whether all that is proposed is good.
-fn is_good(
+// The winners' moves, if all that is proposed is good.
+fn tested_moves(
     alloc: Global,
     lts: &Lts,
     form: &Normal,
     proposals: &Proposals,
-) -> Result<bool, AllocError>
+) -> Result<Option<Vec<u32>>, AllocError>
     requires few { 2 + lts.now.system.states * length (normal_nodes form.now) ≤ MOST_VERTICES }
     requires long { length proposals.now.numbers.items ≡ 2 + lts.now.system.states * length (normal_nodes form.now) }
-    ensures even { IfOk result (λ good. IsTrue good → IsLeastTable (arena lts.now.system (normal_nodes form.now)) (values_of Even proposals.now)) }
-    ensures odd { IfOk result (λ good. IsTrue good → IsLeastTable (dual (arena lts.now.system (normal_nodes form.now))) (values_of Odd proposals.now)) }
+    ensures even { IfOk result (λ found. IfSome found (λ _. IsLeastTable (arena lts.now.system (normal_nodes form.now)) (values_of Even proposals.now))) }
+    ensures odd { IfOk result (λ found. IfSome found (λ _. IsLeastTable (dual (arena lts.now.system (normal_nodes form.now))) (values_of Odd proposals.now))) }
+    ensures moves { IfOk result (λ found. IfSome found (λ moves. AreWinnersMoves proposals.now (arena lts.now.system (normal_nodes form.now)) moves.items)) }
 {
     form.known();
     let states = lts.states();
@@ -207,26 +209,41 @@ fn is_good(
         even: bounds_for(form, states, Player::Even),
         odd: bounds_for(form, states, Player::Odd),
     };
-    if !proposals.even.is_rising() || !proposals.odd.is_rising() {
-        return Ok(false);
-    }
-    if !are_good_sinks(proposals, &bounds) {
-        return Ok(false);
-    }
     let sets = label_sets(alloc, lts, form)?;
-    are_good_states(alloc, lts, form, &sets, proposals, &bounds)
+    let test = LeastTest {
+        lts,
+        form,
+        sets: &sets,
+        proposals,
+        bounds: &bounds,
+    };
+    if proposals.even.is_rising() && proposals.odd.is_rising() {
+        test.test_all(alloc)
+    } else {
+        Ok(None)
+    }
 }
 
-/// Whether proposals are the least progress tables of both players in the arena of a system and a normal form, which isn't stored: Even's of the arena, and
-/// Odd's of its dual. It says no, too, where the arena has too many vertices for a game, and for want of memory. Each vertex is looked at once.
-pub fn are_least(alloc: Global, lts: &Lts, form: &Normal, proposals: &Proposals) -> bool
-    ensures few { IsTrue result → 2 + lts.now.system.states * length (normal_nodes form.now) ≤ MOST_VERTICES }
-    ensures even { IsTrue result → IsLeastTable (arena lts.now.system (normal_nodes form.now)) (values_of Even proposals.now) }
-    ensures odd { IsTrue result → IsLeastTable (dual (arena lts.now.system (normal_nodes form.now))) (values_of Odd proposals.now) }
+/// The winners' moves, if proposals are the least progress tables of both players in the arena of a system and a normal form, which isn't stored: Even's of
+/// the arena, and Odd's of its dual. There are none, too, where the arena has too many vertices for a game, and for want of memory. Each vertex is looked at
+/// once.
+pub fn least_moves(
+    alloc: Global,
+    lts: &Lts,
+    form: &Normal,
+    proposals: &Proposals,
+) -> Option<Vec<u32>>
+    ensures few { IfSome result (λ _. 2 + lts.now.system.states * length (normal_nodes form.now) ≤ MOST_VERTICES) }
+
+    ensures even { IfSome result (λ _. IsLeastTable (arena lts.now.system (normal_nodes form.now)) (values_of Even proposals.now)) }
+    ensures odd { IfSome result (λ _. IsLeastTable (dual (arena lts.now.system (normal_nodes form.now))) (values_of Odd proposals.now)) }
+    ensures moves { IfSome result (λ moves. AreWinnersMoves proposals.now (arena lts.now.system (normal_nodes form.now)) moves.items) }
 {
     form.known();
     let vertices = 2 + u64::from(lts.states()) * u64::from(form.count());
-    vertices <= MOST_VERTICES as u64
-        && proposals.numbers.len() as u64 == vertices
-        && is_good(alloc, lts, form, proposals).unwrap_or(false)
+    if vertices <= MOST_VERTICES as u64 && proposals.numbers.len() as u64 == vertices {
+        tested_moves(alloc, lts, form, proposals).unwrap_or(None)
+    } else {
+        None
+    }
 }

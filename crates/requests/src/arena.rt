@@ -2,8 +2,7 @@
 
 ghost use Rattle.std.specs.Prelude.{None, MatchResult};
 ghost use Rattle.calculus.specs.Closed.{closed_formula};
-ghost use Rattle.requests.specs.Check.{ByGame, IsBeyond};
-ghost use Rattle.requests.specs.Check.{IsArenaOf};
+ghost use Rattle.requests.specs.Check.{ByGame, IsArenaOf, IsBeyond};
 
 use crate::error::MuError;
 use calculus::closed::Closed;

@@ -17,10 +17,10 @@ use game::observer::{Observer, Stage};
 use measures::settle::even_wins;
 use measures::table::Settled;
 use std::alloc::{AllocError, Global};
-use std::sync::{Arc, Wait};
-use std::thread::Threads;
+use std::sync::Arc;
 use workers::error::TeamError;
 use workers::gate::{Gate, NoGate};
+use workers::runtime::Runtime;
 use workers::team::{Team, solve_by};
 
 // The refusal of a team.
@@ -38,11 +38,7 @@ fn refusal(error: TeamError) -> MuError
 ///
 /// # Errors
 /// T1 where the packed board is asked for and the rank of top doesn't fit a word, and only there; T2 and V1 for memory.
-pub fn solve_seen<
-    G: Gate + Sync,
-    O: Observer + Sync,
-    R: Threads + Wait + Clone + Copy + Drop + Send + Sync,
->(
+pub fn solve_seen<G: Gate, O: Observer + Sync, R: Runtime>(
     rt: &R,
     alloc: Global,
     game: &Arc<Game, Global>,
@@ -72,7 +68,7 @@ pub fn solve_seen<
 ///
 /// # Errors
 /// Those of `solve_seen`, and U4.
-pub fn winners_by<O: Observer + Sync, R: Threads + Wait + Clone + Copy + Drop + Send + Sync>(
+pub fn winners_by<O: Observer + Sync, R: Runtime>(
     rt: &R,
     alloc: Global,
     game: &Arc<Game, Global>,

@@ -9,7 +9,7 @@ use arena_search::measures::least_measures;
 use arena_search::ranking::{GuessedRanking, ranking};
 use meaning::plain::plain_states;
 use measures::proposal::Proposals;
-use rankings::least::are_least;
+use rankings::least::least_moves;
 use rankings::sheet::Sheet;
 use rankings::winners::root_winners;
 use samples::dice::Dice;
@@ -63,7 +63,7 @@ fn is_measured(rt: &(impl Abort + AllocGlobal), question: &Question) -> bool {
     match least_measures(rt.alloc(), &question.lts, &question.form) {
         Some(guess) => {
             let proposals = proposals_of(guess);
-            holds!(rt; are_least(rt.alloc(), &question.lts, &question.form, &proposals));
+            holds!(rt; least_moves(rt.alloc(), &question.lts, &question.form, &proposals).is_some());
             drop(proposals);
             true
         }
@@ -200,7 +200,7 @@ fn is_refused(
         let vertices = u32::try_from(proposals.numbers.len()).unwrap_or(3);
         let v = 2 + dice.roll(vertices.saturating_sub(2).max(1));
         make_wrong(&mut proposals, v as usize, how);
-        holds!(rt; !are_least(rt.alloc(), &question.lts, &question.form, &proposals));
+        holds!(rt; least_moves(rt.alloc(), &question.lts, &question.form, &proposals).is_none());
         drop(proposals);
     }
 }
@@ -224,9 +224,9 @@ fn needs_heights(rt: &(impl Abort + AllocGlobal), question: &Question) -> bool {
     match proposed(rt, question) {
         Some(mut proposals) => {
             proposals.heights.clear();
-            let is_least = are_least(rt.alloc(), &question.lts, &question.form, &proposals);
+            let moves = least_moves(rt.alloc(), &question.lts, &question.form, &proposals);
             drop(proposals);
-            !is_least
+            moves.is_none()
         }
         None => false,
     }

@@ -28,13 +28,12 @@ use requests::status::error_status;
 use requests::texts::{look_where, parse_front, read_front};
 use requests::watch::Watcher;
 use std::alloc::Global;
-use std::sync::Wait;
-use std::thread::Threads;
 use tables::error::TableError;
 use text::put_number;
 use text::sink::Sink;
 use text::source::Source;
 use verdicts::marks::{game_marks, plain_marks};
+use workers::runtime::Runtime;
 
 /// What is found of a formula at the states of a system, and what its text says is expected.
 #[derive(Clone, Copy)]
@@ -53,12 +52,7 @@ pub struct LineAnswer {
 ///
 /// # Errors
 /// W1.
-pub fn table_line<
-    S: Source + Drop,
-    W: Sink,
-    U: Watcher + Sync,
-    H: Threads + Wait + Clone + Copy + Drop + Send + Sync,
->(
+pub fn table_line<S: Source + Drop, W: Sink, U: Watcher, H: Runtime>(
     rt: &H,
     alloc: Global,
     system: &Lts,
@@ -78,7 +72,7 @@ pub fn table_line<
 }
 
 /// What is found of the formula that the reader's text spells.
-fn find<S: Source + Drop, U: Watcher + Sync, H: Threads + Wait + Clone + Copy + Drop + Send + Sync>(
+fn find<S: Source + Drop, U: Watcher, H: Runtime>(
     rt: &H,
     alloc: Global,
     system: &Lts,
@@ -95,7 +89,7 @@ fn find<S: Source + Drop, U: Watcher + Sync, H: Threads + Wait + Clone + Copy + 
 }
 
 /// What is found of the formula that a text spells, of which this is all, or the front that shows that it is too long.
-fn find_in<U: Watcher + Sync, H: Threads + Wait + Clone + Copy + Drop + Send + Sync>(
+fn find_in<U: Watcher, H: Runtime>(
     rt: &H,
     alloc: Global,
     system: &Lts,
@@ -112,7 +106,7 @@ fn find_in<U: Watcher + Sync, H: Threads + Wait + Clone + Copy + Drop + Send + S
 }
 
 /// What is found of a formula with this text, of which each word has to be on a transition where the table is strict.
-fn find_known<U: Watcher + Sync, H: Threads + Wait + Clone + Copy + Drop + Send + Sync>(
+fn find_known<U: Watcher, H: Runtime>(
     rt: &H,
     alloc: Global,
     system: &Lts,
@@ -131,7 +125,7 @@ fn find_known<U: Watcher + Sync, H: Threads + Wait + Clone + Copy + Drop + Send 
 }
 
 /// What is found of it where its words are on transitions, or may be on none.
-fn find_marked<U: Watcher + Sync, H: Threads + Wait + Clone + Copy + Drop + Send + Sync>(
+fn find_marked<U: Watcher, H: Runtime>(
     rt: &H,
     alloc: Global,
     system: &Lts,
@@ -155,7 +149,7 @@ fn find_marked<U: Watcher + Sync, H: Threads + Wait + Clone + Copy + Drop + Send
 ///
 /// # Errors
 /// Those of `plain_marks`, or of `game_marks`.
-fn marks_by<O: Observer + Sync, H: Threads + Wait + Clone + Copy + Drop + Send + Sync>(
+fn marks_by<O: Observer + Sync, H: Runtime>(
     rt: &H,
     alloc: Global,
     system: &Lts,

@@ -28,12 +28,16 @@ pub trait Lines {
         ensures { Wrote (W.taken writer.old) (W.taken writer.new) result (line self.now number) };
 }
 
-/// Bytes that wait to be written, 8,192 at most. As a writer it takes what there is room for.
+// How many bytes are written at a time.
+const BATCH: usize = 8192;
+
+// Bytes that wait to be written.
 #[derive(Drop)]
-pub struct Batch {
-    pub bytes: ArrayVec<u8, 8192>,
+struct Batch {
+    bytes: ArrayVec<u8, BATCH>,
 }
 
+// A writer that takes what there is room for.
 impl Write for Batch {
     ghost use Rattle.std.specs.Prelude.{Some};
 
@@ -52,27 +56,14 @@ impl Write for Batch {
     }
 }
 
-impl Batch {
-    pub fn new() -> Self
-        ensures { result.bytes.items ≡ [] }
-    {
-        Batch {
-            bytes: ArrayVec::new(),
-        }
-    }
-
-    /// Writes what waits, by `put`. Nothing waits then.
-    ///
-    /// # Errors
-    /// After a fault the writer holds a beginning of what waited.
-    pub fn send<W: Sink>(&mut self, writer: &mut W) -> Result<(), WriteFault>
-        ensures wrote { Wrote (W.taken writer.old) (W.taken writer.new) result self.old.bytes.items }
-        ensures empty { self.new.bytes.items ≡ [] }
-    {
-        let wrote = put(writer, self.bytes.as_slice());
-        self.bytes.clear();
-        wrote
-    }
+// Writes what waits.
+fn send<W: Sink>(batch: &mut Batch, writer: &mut W) -> Result<(), WriteFault>
+    ensures wrote { Wrote (W.taken writer.old) (W.taken writer.new) result batch.old.bytes.items }
+    ensures empty { batch.new.bytes.items ≡ [] }
+{
+    let wrote = put(writer, batch.bytes.as_slice());
+    batch.bytes.clear();
+    wrote
 }
 
 // Puts a line to the bytes that wait, if there is room for it.
@@ -104,7 +95,7 @@ fn pass<L: Lines, W: Sink>(
     if wait(lines, number, batch) {
         return Ok(());
     }
-    batch.send(writer)?;
+    send(batch, writer)?;
     if wait(lines, number, batch) {
         return Ok(());
     }
@@ -118,9 +109,11 @@ fn pass<L: Lines, W: Sink>(
 pub fn put_lines<L: Lines, W: Sink>(lines: &L, writer: &mut W) -> Result<(), WriteFault>
     ensures wrote { Wrote (W.taken writer.old) (W.taken writer.new) result (lines_from (L.line lines.now) 0 (L.count lines.now)) }
 {
-    let mut batch = Batch::new();
+    let mut batch = Batch {
+        bytes: ArrayVec::new(),
+    };
     for number in 0..lines.count() {
         pass(lines, number, &mut batch, writer)?;
     }
-    batch.send(writer)
+    send(&mut batch, writer)
 }

@@ -11,7 +11,7 @@ pub mod source;
 pub mod stream;
 pub mod write_loop;
 
-pub use batch::{Batch, Lines, put_lines};
+pub use batch::{Lines, put_lines};
 pub use error::{Memory, ReadFault};
 pub use lines::next_line;
 pub use write_loop::{Piece, WriteFault, put, put_number, put_pieces};

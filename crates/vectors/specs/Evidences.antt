@@ -4,12 +4,12 @@ use Rattle.std.specs.List.{list_all, range_with_len}
 use Rattle.std.proofs.Common.{arith, inl, inr, subst, sym, ◌∙◌, true≢false}
 use Rattle.game.specs.declared.player.Player.TheVariants.{Even, Odd}
 use Rattle.game.specs.Game.{Vertex, vertex}
-use Rattle.measures.specs.Laws.{IsLeastSuccessor}
+use Rattle.measures.specs.Laws.{IsBestMove, IsLeastSuccessor}
 use Rattle.measures.specs.Measure.{Counts, IsAtMost, IsMeasure, Measure, Top}
 use Rattle.measures.specs.Progress.{value_at}
 use Rattle.measures.proofs.Lists.{contains_first, contains_later}
 use Rattle.measures.proofs.Measures.{at_most_itself, at_most_trans, prog, prog_more, top_prog}
-use Rattle.evidence.specs.Best.{IsBestMove, IsEvenOf}
+use Rattle.evidence.specs.Best.{IsEvenOf}
 use Rattle.evidence.specs.Evidence.{Entry, Evidence, counted, entry_at, has}
 use Rattle.evidence.specs.Verdict.{IsBoth, IsVerdict}
 use Rattle.evidence.specs.declared.verdict.Fault.TheVariants.{Leaves, Move, Rank}

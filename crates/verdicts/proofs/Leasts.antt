@@ -1,7 +1,6 @@
 -- From the least measures of an arena to the marks, and to what is found by them.
 use Rattle.std.proofs.Common.{◌≡◌, ◌≢◌, ◌+◌, ◌*◌, ◌<◌, ◌≤◌, ℕ, Bool, true, false, not, true≢false, List, length, refl, subst, sym, ◌∙◌, arith}
 use Rattle.std.specs.Prelude.{◌↔◌, IsTrue}
-use Rattle.std.proofs.lemmas.List.{length-map}
 use Rattle.systems.specs.System.{System}
 use Rattle.calculus.specs.Closed.{closed_formula}
 use Rattle.calculus.specs.Form.{IsForm}
@@ -12,11 +11,11 @@ use Rattle.calculus.specs.declared.priorities.Priorities.{Priorities}
 use Rattle.game.specs.declared.player.Player.TheVariants.{Even}
 use Rattle.game.specs.Arena.{arena, place}
 use Rattle.game.specs.Wins.{Wins}
-use Rattle.game.proofs.Arenas.{arena_is_game, rows_count}
+use Rattle.game.proofs.Arenas.{arena_is_game}
 use Rattle.measures.specs.Laws.{LeastDecides}
 use Rattle.measures.specs.Measure.{Measure, Top}
 use Rattle.measures.specs.Progress.{value_at}
-use Rattle.measures.specs.StoredProposal.{layout_of, value_of, values_of}
+use Rattle.measures.specs.StoredProposal.{values_of}
 use Rattle.measures.specs.declared.proposal.Proposals.{Proposals}
 use Rattle.requests.specs.declared.texts.Texts.{Texts}
 use Rattle.verdicts.specs.declared.findings.GameToSolve.{GameToSolve}
@@ -33,11 +32,6 @@ least_won l ns c n marks decides form few least e m = record { count = m.count; 
         let d = decides (arena l ns) (arena_is_game l ns form few) (values_of Even c) least.even (place (length ns) s 0) in
         let a = subst (λ k. marked marks s ↔ (value_at (values_of Even c) (place k s 0) ≢ Top)) e (m.exact s h) in
         (λ mark. d.0 (a.0 mark), λ w. a.1 (d.1 w))
-
--- There is a number for each vertex.
-pub numbers_count : (l : System) (ns : List Node) (c : Proposals) → AreLeastOf l ns c → length c.numbers.items ≡ 2 + l.states * length ns
-numbers_count l ns c least = sym (length-map c.numbers.items (value_of Even (layout_of Even c))) ∙ (least.even.progress.0.0
-    ∙ (let c = rows_count l ns l.states in omega (arith, c)))
 
 -- What isn't top is marked.
 pub won_mark : (lost : Bool) (m own : Measure) → own ≡ m → (IsTrue lost ↔ (own ≡ Top)) → IsTrue (not lost) ↔ (m ≢ Top)

@@ -3,6 +3,4 @@ pub mod Limits
 mod Ranking
 pub mod Roots
 mod Leasts
-mod BestMoves
-mod LeastGame
-mod LeastSteps
+mod LeastTexts

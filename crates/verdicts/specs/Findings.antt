@@ -26,6 +26,7 @@ use Rattle.evidence.specs.declared.pair.EvidencePair.{EvidencePair}
 use Rattle.verdicts.specs.declared.marks.MarkedGame.{MarkedGame}
 use Rattle.verdicts.specs.declared.proposing.LeastFound.{LeastFound}
 use Rattle.calculus.specs.declared.priorities.Priorities.{Priorities}
+use Rattle.rankings.specs.Least.{AreWinnersMoves}
 use Rattle.workers.specs.declared.team.BoardKind.{BoardKind}
 use Rattle.requests.specs.Check.{Way, ByGame, AreMarks, HasGame, IsArenaOf}
 use Rattle.requests.specs.Solver.{FitsBoard}
@@ -42,12 +43,14 @@ pub record AreLeastOf (l : System) (nodes : List Node) (c : Proposals) : Type 0 
   pub even : IsLeastTable (arena l nodes) (values_of Even c)
   pub odd : IsLeastTable (dual (arena l nodes)) (values_of Odd c)
 
--- The form is the formula's, the arena is within the limits, its least measures are found, and no board is asked for that could be refused.
+-- The form is the formula's, the arena is within the limits, its least measures and the moves by them are found, and no board is asked for that could be
+-- refused.
 pub record IsLeastFound (rule : Priorities) (board : BoardKind) (l : System) (f : Formula) (x : LeastFound) : Type 0 where
   pub within : HasGame rule l f
   pub fits : (g : Game) → FitsBoard (Some board) g
   pub form : normal_nodes x.form ≡ nodes_with rule f
   pub least : AreLeastOf l (nodes_with rule f) x.proposals
+  pub moves : AreWinnersMoves x.proposals (arena l (nodes_with rule f)) x.moves.items
 
 -- The game is that of the system and the formula, and the marks are the states'.
 pub record IsMarkedGame (rule : Priorities) (board : BoardKind) (l : System) (f : Formula) (x : MarkedGame) : Type 0 where

@@ -39,11 +39,12 @@ use requests::texts::{Texts, read_both};
 use requests::watch::Watcher;
 use std::alloc::Global;
 use std::hash::BuildHasher;
-use std::sync::{Arc, Wait};
+use std::sync::Arc;
 use std::thread::Threads;
 use text::Memory;
 use text::source::Source;
 use workers::gate::{Gate, NoGate};
+use workers::runtime::Runtime;
 use workers::team::BoardKind;
 
 /// What a check by a game finds out, with all that its texts need but evidence.
@@ -95,13 +96,7 @@ pub fn find_alone<L: BuildHasher + Drop, R: Source + Drop, S: Source + Drop, H: 
 ///
 /// # Errors
 /// Those of `find_alone`, and those of the board and of the workers' table: T1 where the packed board can't be had, and only there.
-pub fn find_with<
-    L: BuildHasher + Drop,
-    R: Source + Drop,
-    S: Source + Drop,
-    T: Gate + Sync,
-    H: Threads + Wait + Clone + Copy + Drop + Send + Sync,
->(
+pub fn find_with<L: BuildHasher + Drop, R: Source + Drop, S: Source + Drop, T: Gate, H: Runtime>(
     rt: &H,
     alloc: Global,
     hasher: L,
@@ -127,7 +122,7 @@ pub fn find_with<
 ///
 /// # Errors
 /// Those of the normal form, of the game, of the board and of the workers' table; U4.
-pub fn find_in<O: Watcher + Sync, H: Threads + Wait + Clone + Copy + Drop + Send + Sync>(
+pub fn find_in<O: Watcher, H: Runtime>(
     rt: &H,
     alloc: Global,
     texts: Texts,
@@ -152,7 +147,7 @@ fn boxed<T: Drop>(alloc: Global, value: T) -> Result<Box<T>, Memory>
     Ok(Box::new(alloc, value)?)
 }
 
-fn find_boxed<O: Watcher + Sync, H: Threads + Wait + Clone + Copy + Drop + Send + Sync>(
+fn find_boxed<O: Watcher, H: Runtime>(
     rt: &H,
     alloc: Global,
     texts: Box<Texts>,
@@ -174,7 +169,7 @@ fn find_boxed<O: Watcher + Sync, H: Threads + Wait + Clone + Copy + Drop + Send 
 }
 
 /// What is found out of these texts, whose least measures are known.
-fn find_by_least<O: Watcher + Sync, H: Threads + Wait + Clone + Copy + Drop + Send + Sync>(
+fn find_by_least<O: Watcher, H: Runtime>(
     rt: &H,
     alloc: Global,
     texts: Box<Texts>,
@@ -189,13 +184,17 @@ fn find_by_least<O: Watcher + Sync, H: Threads + Wait + Clone + Copy + Drop + Se
     ensures refusal { IfErr result (IsBeyond (ByGame options.now.priorities (Some options.now.board)) texts.value.system.system
         (closed_formula texts.value.formula)) }
 {
-    let LeastFound { form, proposals } = least;
+    let LeastFound {
+        form,
+        proposals,
+        ..
+    } = least;
     let posed = build_with(rt, alloc, texts, options.priorities, form, observer)?;
     find_least(alloc, posed, options, proposals)
 }
 
 /// What is found out of these texts by solving their game.
-fn find_by_game<O: Watcher + Sync, H: Threads + Wait + Clone + Copy + Drop + Send + Sync>(
+fn find_by_game<O: Watcher, H: Runtime>(
     rt: &H,
     alloc: Global,
     texts: Box<Texts>,
@@ -295,7 +294,7 @@ fn find_by_one(alloc: Global, posed: GameToSolve) -> Result<Findings, MuError>
 }
 
 /// What is found out of these texts by workers, who lift from the opening table on.
-fn find_by_workers<T: Gate + Sync, H: Threads + Wait + Clone + Copy + Drop + Send + Sync>(
+fn find_by_workers<T: Gate, H: Runtime>(
     rt: &H,
     alloc: Global,
     posed: GameToSolve,
@@ -332,7 +331,7 @@ fn find_least(
 }
 
 /// What is found out of these texts, over the board that the options ask for.
-fn find_posed<O: Observer + Sync, H: Threads + Wait + Clone + Copy + Drop + Send + Sync>(
+fn find_posed<O: Observer + Sync, H: Runtime>(
     rt: &H,
     alloc: Global,
     posed: GameToSolve,
@@ -351,7 +350,7 @@ fn find_posed<O: Observer + Sync, H: Threads + Wait + Clone + Copy + Drop + Send
 
 /// The least progress table. Over a board that is named workers lift it from the opening table on, and else from a table that has top where certified evidence
 /// says that Odd wins.
-fn settle_posed<O: Observer + Sync, H: Threads + Wait + Clone + Copy + Drop + Send + Sync>(
+fn settle_posed<O: Observer + Sync, H: Runtime>(
     rt: &H,
     alloc: Global,
     posed: &GameToSolve,

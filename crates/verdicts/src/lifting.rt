@@ -74,8 +74,6 @@ pub fn state_marks(
         → AreMarks (ByGame priorities board) system.now.system (closed_formula formula.now) marks.items) }
     ensures refusal { IfErr result (λ e. e ≡ MuError.Memory) }
 {
-    // For the proof alone: clauses name it.
-    let _ = priorities;
     chosen_is_admissible();
     even_wins_where_meant();
     let states = system.states();

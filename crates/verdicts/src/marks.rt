@@ -18,8 +18,8 @@ use requests::error::MuError;
 use requests::request::Options;
 use requests::solver::winners_by;
 use std::alloc::Global;
-use std::sync::{Arc, Wait};
-use std::thread::Threads;
+use std::sync::Arc;
+use workers::runtime::Runtime;
 
 /// A mark for each state, true where it satisfies the formula, by sets of states.
 ///
@@ -36,7 +36,7 @@ pub fn plain_marks(alloc: Global, system: &Lts, formula: &Closed) -> Result<Vec<
 ///
 /// # Errors
 /// Those of the normal form, of the game, of its board and of its workers, unchanged; U4.
-pub fn game_marks<O: Observer + Sync, H: Threads + Wait + Clone + Copy + Drop + Send + Sync>(
+pub fn game_marks<O: Observer + Sync, H: Runtime>(
     rt: &H,
     alloc: Global,
     system: &Lts,
@@ -64,7 +64,7 @@ pub struct MarkedGame {
 ///
 /// # Errors
 /// Those of `game_marks`.
-pub fn marked_game<O: Observer + Sync, H: Threads + Wait + Clone + Copy + Drop + Send + Sync>(
+pub fn marked_game<O: Observer + Sync, H: Runtime>(
     rt: &H,
     alloc: Global,
     system: &Lts,
@@ -83,7 +83,7 @@ pub fn marked_game<O: Observer + Sync, H: Threads + Wait + Clone + Copy + Drop +
 ///
 /// # Errors
 /// Those of `game_marks`.
-fn with_game<O: Observer + Sync, H: Threads + Wait + Clone + Copy + Drop + Send + Sync>(
+fn with_game<O: Observer + Sync, H: Runtime>(
     rt: &H,
     alloc: Global,
     system: &Lts,
@@ -117,7 +117,7 @@ fn with_game<O: Observer + Sync, H: Threads + Wait + Clone + Copy + Drop + Send 
 }
 
 /// A mark for each state, true where it satisfies the formula, in the game of both.
-fn marks_in<O: Observer + Sync, H: Threads + Wait + Clone + Copy + Drop + Send + Sync>(
+fn marks_in<O: Observer + Sync, H: Runtime>(
     rt: &H,
     alloc: Global,
     system: &Lts,

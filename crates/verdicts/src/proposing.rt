@@ -6,10 +6,11 @@ ghost use Rattle.calculus.specs.Meaning.{MarksOf};
 ghost use Rattle.calculus.specs.Normal.{normal_nodes};
 ghost use Rattle.game.specs.declared.limits.TheConstants.{MOST_VERTICES};
 ghost use Rattle.game.specs.declared.player.Player.TheVariants.{Even};
-ghost use Rattle.game.specs.Arena.{place};
+ghost use Rattle.game.specs.Arena.{arena, place};
 ghost use Rattle.measures.specs.Measure.{Top};
 ghost use Rattle.measures.specs.Progress.{value_at};
 ghost use Rattle.measures.specs.StoredProposal.{values_of};
+ghost use Rattle.rankings.specs.Least.{AreWinnersMoves};
 ghost use Rattle.requests.specs.Check.{AreMarks, ByGame};
 ghost use Rattle.verdicts.specs.Findings.{AreLeastOf, IsLeastFound};
 
@@ -25,7 +26,7 @@ use measures::field::CountField;
 use measures::measure::COMPONENTS;
 use measures::proposal::{PlayerLayout, Proposals, SHIFTS};
 use normal::make::normal_with;
-use rankings::least::are_least;
+use rankings::least::least_moves;
 use requests::error::MuError;
 use requests::request::Options;
 use requests::texts::Texts;
@@ -68,24 +69,28 @@ pub fn proposals_of(guess: GuessedMeasures) -> Proposals
     }
 }
 
-/// The formula's normal form, and the least measures of both players in the arena of the system and this form.
+/// The formula's normal form, the least measures of both players in the arena of the system and this form, and for each vertex the move of the one who wins it.
 #[derive(Drop)]
 pub struct LeastFound {
     pub form: Normal,
     pub proposals: Proposals,
+    pub moves: Vec<u32>,
 }
 
-// The least progress tables of both players, as they are guessed and found good.
-fn least_tables(alloc: Global, system: &Lts, form: &Normal) -> Option<Proposals>
-    ensures few { IfSome result (λ _. 2 + system.now.system.states * length (normal_nodes form.now) ≤ MOST_VERTICES) }
-    ensures least { IfSome result (AreLeastOf system.now.system (normal_nodes form.now)) }
+// The least measures of both players, as they are guessed and found good.
+fn least_of(alloc: Global, system: &Lts, form: Normal) -> Option<LeastFound>
+    ensures form { IfSome result (λ found. normal_nodes found.form ≡ normal_nodes form) }
+    ensures few { IfSome result (λ _. 2 + system.now.system.states * length (normal_nodes form) ≤ MOST_VERTICES) }
+    ensures least { IfSome result (λ found. AreLeastOf system.now.system (normal_nodes form) found.proposals) }
+    ensures moves { IfSome result (λ found. AreWinnersMoves found.proposals (arena system.now.system (normal_nodes form)) found.moves.items) }
 {
-    let proposals = proposals_of(least_measures(alloc, system, form)?);
-    if are_least(alloc, system, form, &proposals) {
-        Some(proposals)
-    } else {
-        None
-    }
+    let proposals = proposals_of(least_measures(alloc, system, &form)?);
+    let moves = least_moves(alloc, system, &form, &proposals)?;
+    Some(LeastFound {
+        form,
+        proposals,
+        moves,
+    })
 }
 
 /// The least measures of both players, as they are guessed and found good. There are none where the guess isn't good, where a limit is passed, or for want of
@@ -107,8 +112,7 @@ pub fn least_found<O: Observer>(
         Ok(form) => {
             let vertices = 2 + states * form.count();
             observer.sees(Stage::Searching { vertices });
-            let proposals = least_tables(alloc, system, &form)?;
-            Some(LeastFound { form, proposals })
+            least_of(alloc, system, form)
         }
         Err(_) => None,
     }
@@ -123,13 +127,12 @@ fn root_marks_of(
 ) -> Result<Vec<bool>, AllocError>
     requires some { 0 < nodes }
     requires few { 2 + states * nodes ≤ MOST_VERTICES }
-    requires long { length proposals.now.numbers.items ≡ 2 + states * nodes }
     ensures { IfOk result (λ marks. MarksOf states marks.items (λ s. value_at (values_of Even proposals.now) (place nodes s 0) ≢ Top)) }
 {
     let mut marks = Vec::with_capacity(alloc, states as usize)?;
     for state in 0..states {
         let root = 2 + state * nodes;
-        let is_lost = proposals.value(Player::Even, root).is_top();
+        let is_lost = proposals.value(Player::Even, root as usize).is_top();
         marks.push(!is_lost)?;
     }
     Ok(marks)

@@ -1,6 +1,6 @@
 // The states that satisfy a formula, by a ranking of its parity game, which isn't stored.
 
-ghost use Rattle.std.specs.Prelude.{◌≡◌, ◌+◌, ◌*◌, ◌≤◌, ◌↔◌, IfSome, IsTrue, Some, length};
+ghost use Rattle.std.specs.Prelude.{◌+◌, ◌*◌, ◌≤◌, IfSome, Some, length};
 ghost use Rattle.calculus.specs.Closed.{closed_formula};
 ghost use Rattle.calculus.specs.Meaning.{MarksOf};
 ghost use Rattle.calculus.specs.Normal.{normal_nodes};

@@ -1,7 +1,7 @@
 // What is told of workers while they work.
 
 /// Is called by a worker before each of its turns.
-pub trait Gate {
+pub trait Gate: Sync {
     /// The worker, by its number, is about to lift the vertex.
     fn before(&self, worker: usize, v: u32);
 }

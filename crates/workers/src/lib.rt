@@ -7,6 +7,7 @@ pub mod gate;
 mod jobs;
 mod marks;
 mod rest;
+pub mod runtime;
 pub mod solving;
 pub mod team;
 mod watched;

@@ -48,7 +48,7 @@ fn for_each_worker<D: Send, R: Threads + Sync, F: Fn(usize, &mut WorkerState<D>)
 fn run<
     K: GameName + Send + Sync,
     B: Board + Sync,
-    G: Gate + Sync,
+    G: Gate,
     O: Observer + Sync,
     R: Threads + Wait + Sync,
 >(
@@ -102,7 +102,7 @@ fn run<
 /// # Errors
 /// V1 where memory for the table is refused. Memory, a thread or a seat that a worker doesn't get is no error: what is left is
 /// lifted at the end.
-pub fn solve<B: Board + Drop + Sync, G: Gate + Sync, R: Threads + Wait + Sync>(
+pub fn solve<B: Board + Drop + Sync, G: Gate, R: Threads + Wait + Sync>(
     rt: &R,
     alloc: Global,
     game: &Arc<Game, Global>,
@@ -125,7 +125,7 @@ pub fn solve<B: Board + Drop + Sync, G: Gate + Sync, R: Threads + Wait + Sync>(
 /// V1 where memory for the table is refused.
 pub(crate) fn solve_watched<
     B: Board + Drop + Sync,
-    G: Gate + Sync,
+    G: Gate,
     O: Observer + Sync,
     R: Threads + Wait + Sync,
 >(

@@ -1,6 +1,6 @@
 // Solving over the board that is asked for.
 
-ghost use Rattle.std.specs.Prelude.{◌≡◌, ◌<◌, ◌↔◌, IfErr, IfOk, IfSome, IsTrue, MatchResult, false, length};
+ghost use Rattle.std.specs.Prelude.{◌≡◌, ◌<◌, ◌↔◌, IfErr, IfOk, MatchResult, false, length};
 ghost use Rattle.std.specs.Arc.{arc_value};
 ghost use Rattle.calculus.specs.Meaning.{MarksOf};
 ghost use Rattle.game.specs.Game.{Game};
@@ -12,6 +12,7 @@ ghost use Rattle.workers.specs.Team.{IsMemory, IsTeamRefusal, IsTooGreat, MayBeR
 
 use crate::error::TeamError;
 use crate::gate::Gate;
+use crate::runtime::Runtime;
 use crate::solving::solve_watched;
 use crate::watched::Watched;
 use game::graph::Game;
@@ -72,11 +73,7 @@ pub struct Team {
 /// # Errors
 /// T1 where the packed board is asked for and the rank of top doesn't fit a word, and only there. T2 where memory for the board is refused,
 /// V1 where it is refused for the table.
-pub fn solve_by<
-    G: Gate + Sync,
-    O: Observer + Sync,
-    R: Threads + Wait + Clone + Copy + Drop + Send + Sync,
->(
+pub fn solve_by<G: Gate, O: Observer + Sync, R: Runtime>(
     rt: &R,
     alloc: Global,
     game: &Arc<Game, Global>,
@@ -103,12 +100,7 @@ pub fn solve_by<
 }
 
 // By workers over shards of the game that K names.
-fn solve_locked<
-    K: GameName + Send + Sync,
-    G: Gate + Sync,
-    O: Observer + Sync,
-    R: Threads + Wait + Clone + Copy + Drop + Send + Sync,
->(
+fn solve_locked<K: GameName + Send + Sync, G: Gate, O: Observer + Sync, R: Runtime>(
     rt: &R,
     alloc: Global,
     game: &Arc<Game, Global>,
@@ -128,7 +120,7 @@ fn solve_locked<
 }
 
 // By workers over one word for each vertex.
-fn solve_packed<G: Gate + Sync, O: Observer + Sync, R: Threads + Wait + Sync>(
+fn solve_packed<G: Gate, O: Observer + Sync, R: Threads + Wait + Sync>(
     rt: &R,
     alloc: Global,
     game: &Arc<Game, Global>,
@@ -148,7 +140,7 @@ fn solve_packed<G: Gate + Sync, O: Observer + Sync, R: Threads + Wait + Sync>(
 }
 
 // By workers over a board, on which each vertex that isn't won is raised to top first.
-fn solve_over<B: Board + Drop + Sync, G: Gate + Sync, O: Observer + Sync, R: Threads + Wait + Sync>(
+fn solve_over<B: Board + Drop + Sync, G: Gate, O: Observer + Sync, R: Threads + Wait + Sync>(
     rt: &R,
     alloc: Global,
     game: &Arc<Game, Global>,

@@ -14,8 +14,8 @@ use Rattle.engines.proofs.engine.check_by_game.Goals as goal
 
 pub returns-clause-answers : goal.returns-clause-answers
 returns-clause-answers g c = λ first second spelled.
-    by_way (way_in c.in_ok-found.found) _ first second _ c.answer_prepared.result c.in_ok-found.ensures.way
-    (c.answer_prepared.ensures.answers first second (subst (λ (t : Texts). AreSpelled first second t.system.system (closed_formula t.formula))
+    by_way (way_in c.in_ok-found.found) _ first second _ c.answer_wanted.result c.in_ok-found.ensures.way
+    (c.answer_wanted.ensures.answers first second (subst (λ (t : Texts). AreSpelled first second t.system.system (closed_formula t.formula))
     (sym c.in_ok-found.ensures.texts) spelled))
 
 pub returns-in_err-found-clause-answers : goal.returns-in_err-found-clause-answers

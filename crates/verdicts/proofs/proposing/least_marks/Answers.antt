@@ -9,7 +9,7 @@ use Rattle.game.specs.Arena.{place}
 use Rattle.measures.specs.Measure.{Top}
 use Rattle.measures.specs.Progress.{value_at}
 use Rattle.measures.specs.StoredProposal.{values_of}
-use Rattle.verdicts.proofs.Leasts.{least_won, numbers_count}
+use Rattle.verdicts.proofs.Leasts.{least_won}
 use Rattle.verdicts.proofs.Ranking.{ranked_by}
 use Rattle.verdicts.proofs.proposing.least_marks.Goals as goal
 
@@ -28,11 +28,3 @@ returns-clause-marks c =
     ranked_by rule c.args.options.now.board l f ns (Some marks) c.chosen_is_admissible.ensures c.even_wins_where_meant.ensures.root
     c.states-states.ensures.known c.args.texts.now.formula.admitted is.fits is.within.form.nodes is.within.form.priorities refl is.within.vertices
     (least_won l ns c.args.least.now.proposals c.count.result marks.items c.least_decides.ensures form is.within.vertices is.least count m)
-
-pub root_marks_of-requires-clause-long : goal.root_marks_of-requires-clause-long
-root_marks_of-requires-clause-long c =
-    let l = c.args.texts.now.system.system in
-    let ns = nodes_with c.args.options.now.priorities (closed_formula c.args.texts.now.formula) in
-    let states = sym c.states-states.ensures.count in
-    let count = sym (c.count.ensures.count ∙ ap (λ (xs : List Node). length xs) c.requires.form) in
-    numbers_count l ns c.args.least.now.proposals c.requires.least ∙ (λ i. 2 + states i * count i)

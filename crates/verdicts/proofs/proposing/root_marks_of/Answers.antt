@@ -22,12 +22,6 @@ overflow_add-root c =
     let few = c.requires.few in
     omega (arith, room, few)
 
-pub value-requires : goal.value-requires
-value-requires c =
-    let room : c.loop-state.state * c.args.nodes < c.args.states * c.args.nodes = mul-lt-mul_of_pos_right c.loop-state-test.true c.requires.some in
-    let long = c.requires.long in
-    omega (arith, room, long)
-
 pub loop-state-preserved : goal.loop-state-preserved
 loop-state-preserved c =
     let state = c.loop-state.state in
