@@ -6,9 +6,29 @@ use std::io::Read;
 /// A reader that hands out so many bytes at a time, and then fails or ends.
 #[derive(Drop)]
 pub struct SlowReader<'a> {
-    pub left: &'a [u8],
-    pub step: usize,
-    pub fails: bool,
+    left: &'a [u8],
+    step: usize,
+    fails: bool,
+}
+
+impl<'a> SlowReader<'a> {
+    /// A reader that hands out a whole text.
+    pub fn whole(text: &'a [u8], step: usize) -> Self {
+        SlowReader {
+            left: text,
+            step,
+            fails: false,
+        }
+    }
+
+    /// A reader that hands out so many bytes of a text, and then fails.
+    pub fn failing(text: &'a [u8], step: usize, given: usize) -> Self {
+        SlowReader {
+            left: &text[..given.min(text.len())],
+            step,
+            fails: true,
+        }
+    }
 }
 
 impl Read for SlowReader<'_> {
@@ -27,8 +47,18 @@ impl Read for SlowReader<'_> {
 /// A reader whose every second read is interrupted.
 #[derive(Drop)]
 pub struct Halting<'a> {
-    pub left: &'a [u8],
-    pub is_interrupted: bool,
+    left: &'a [u8],
+    is_interrupted: bool,
+}
+
+impl<'a> Halting<'a> {
+    /// A reader that hands out a whole text.
+    pub fn whole(text: &'a [u8]) -> Self {
+        Halting {
+            left: text,
+            is_interrupted: false,
+        }
+    }
 }
 
 impl Read for Halting<'_> {

@@ -1,6 +1,8 @@
 // Short lines that are written many at a time. The numbers are counted by hand: 8,192 bytes wait at the most.
 
-use crate::common::{holds, holds_for};
+use crate::common::holds_of;
+use samples::holds;
+use samples::host::Host;
 use samples::writers::{AMPLE, Narrow};
 use std::io;
 use std::io::Write;
@@ -97,18 +99,19 @@ fn no_lines_take_no_write(rt: HostRuntime) {
 }
 
 // Of a thousand short lines a writer keeps what it has room for, and a fault is told unless it is all.
-fn keeps(rt: &(impl Abort + AllocGlobal), room: usize, kept: usize) {
+fn keeps(rt: &impl Host, room: usize, kept: usize) {
     let mut out = Narrow::new(rt.alloc(), 100, room);
     let lines = Alike {
         count: 1000,
         line: SHORT,
     };
-    holds_for(
+    holds_of(
         rt,
         put_lines(&lines, &mut out).is_ok() == (kept == 11_000),
-        room,
+        "room",
+        room as u64,
     );
-    holds_for(rt, out.taken.len() == kept, room);
+    holds_of(rt, out.taken.len() == kept, "room", room as u64);
     drop(out);
 }
 

@@ -2,17 +2,17 @@
 // lines of faults are worked examples of that format, written by hand.
 
 use crate::common::{
-    failing, game_by_hand, game_of, has_taken, holds_for, is_either, narrow, repeated, same, slow,
+    failing, game_by_hand, has_taken, holds_of, is_either, narrow, repeated, same, slow,
 };
 use game::graph::Game;
 use game::player::Player;
 use pgsolver::{read_game, write_game};
 use samples::games::GameRow;
+use samples::host::Host;
 use samples::readers::Halting;
 use samples::writers::{AtEnd, Narrow};
 use std::alloc::{AllocError, Global};
 use std::io::Read;
-use std::process::Abort;
 
 // The canonical text of what was read, or the refusal.
 fn shown<R: Read + Drop>(alloc: Global, reader: R) -> Result<String, AllocError> {
@@ -40,44 +40,25 @@ fn text_of(alloc: Global, game: &Game) -> Result<String, AllocError> {
 
 const TWO: &str = "parity 1;\n0 0 0 1;\n1 1 1 0;\n";
 
-// Texts, and what is shown of each.
-static TEXTS: [(&str, &str); 31] = [
+// Texts, and what is shown of each. tests/hostile has many more that are refused.
+static TEXTS: [(&str, &str); 12] = [
     (TWO, TWO),
     // The lines in another order, blanks, names, a successor that stands twice, and no end of the last line.
     ("parity 1;\n1 1 1 0;\n0 0 0 1;", TWO),
     ("parity 1;\r\n0 0 0 1 \"a\";\r\n1 1 1 0 \"\";\r\n", TWO),
     (" parity1 ; \n\t0  0\t0 1 , 1,1;\n1 1 1 0\"x;y\" ;", TWO),
-    ("parity 0;\n0 31 1 0;", "parity 0;\n0 31 1 0;\n"),
     ("", "G1 at line 1"),
-    ("start 0;", "G1 at line 1"),
-    ("parity 1", "G1 at line 1"),
-    ("parity 01;\n", "G1 at line 1"),
-    ("parity 16777216;", "G6 at line 1"),
     ("parity 99999999999999999999;", "G6 at line 1"),
-    ("parity 0;\n0 0 2 0;", "G2 at line 2"),
-    ("parity 0;\n0 0 0 ,;", "G2 at line 2"),
     ("parity 0;\n0 0 0 0", "G2 at line 2"),
-    ("parity 0;\n\n", "G2 at line 2"),
-    ("parity 0;\n0 00 0;", "G2 at line 2"),
-    ("parity 0;\n0 00;", "G2 at line 2"),
     ("parity 1;\n0 0 0 1 0;", "G2 at line 2"),
-    ("parity 0;\n0 0 0 0 \"\x7f\";", "G2 at line 2"),
-    ("parity 1;\n0 0 0 1;", "G3 at line 3"),
     ("parity 1;\n0 0 0 1;\n0 0 0 1;", "G3 at line 3"),
-    ("parity 0;\n1 0 0 0;", "G3 at line 2"),
-    ("parity 0;\n1 40 0;", "G3 at line 2"),
-    ("parity 0;\n0 0 0 0;\n0 0 0 0;", "G3 at line 3"),
-    ("parity 0;\n0 0 0 0;\n\n", "G2 at line 3"),
-    ("parity 0;\n0 0 0;", "G4 at line 2"),
     ("parity 0;\n0 0 0\"x\";", "G4 at line 2"),
-    ("parity 0;\n0 0 0 2;", "G4 at line 2"),
     ("parity 0;\n0 40 0 4294967296;", "G4 at line 2"),
-    ("parity 0;\n0 32 0 0;", "G5 at line 2"),
     ("parity 0;\n0 4294967296 0 0;", "G5 at line 2"),
 ];
 
 // What is shown of what a reader gives is this.
-fn is_shown<R: Read + Drop>(rt: &(impl Abort + AllocGlobal), what: &str, reader: R, wanted: &str) {
+fn is_shown<R: Read + Drop>(rt: &impl Host, what: &str, reader: R, wanted: &str) {
     let told = shown(rt.alloc(), reader).expect(rt, "memory");
     same(rt, what, told.as_str(), wanted);
     drop(told);
@@ -85,7 +66,7 @@ fn is_shown<R: Read + Drop>(rt: &(impl Abort + AllocGlobal), what: &str, reader:
 
 // A byte at a time, less than a line, and as much as a block has. A line that stands whole in the block at hand is read at once, any other token by
 // token.
-fn tells(rt: &(impl Abort + AllocGlobal), what: &str, text: &[u8], wanted: &str) {
+fn tells(rt: &impl Host, what: &str, text: &[u8], wanted: &str) {
     is_shown(rt, what, slow(text, 1), wanted);
     is_shown(rt, what, slow(text, 7), wanted);
     is_shown(rt, what, slow(text, 8192), wanted);
@@ -149,10 +130,7 @@ fn a_failed_read_is_told_wherever_it_comes(rt: HostRuntime) {
 
 #[test]
 fn an_interrupted_read_is_tried_again(rt: HostRuntime) {
-    let reader = Halting {
-        left: TWO.as_bytes(),
-        is_interrupted: false,
-    };
+    let reader = Halting::whole(TWO.as_bytes());
     is_shown(&rt, TWO, reader, TWO);
 }
 
@@ -171,32 +149,18 @@ fn want_of_memory_is_told_as_such(rt: HostRuntime) {
     }
 }
 
-fn is_written(rt: &(impl Abort + AllocGlobal), game: &Game, wanted: &str) {
-    let text = text_of(rt.alloc(), game).expect(rt, "memory");
-    same(rt, "names", text.as_str(), wanted);
-    drop(text);
-}
-
-const NAMED: &str =
-    "parity 3;\n0 0 0 0 \"true\";\n1 1 0 1 \"false\";\n2 0 1 0 \"0,0\";\n3 0 0 1 \"0,1\";\n";
-
-// A game that `build` made is written with its names, and read again without them.
-#[test]
-fn names_are_written_and_not_read(rt: HostRuntime) {
-    let game = game_of(&rt, "des (0,0,1)", "[true]false");
-    is_written(&rt, &game, NAMED);
-    drop(game);
-    let nameless = "parity 3;\n0 0 0 0;\n1 1 0 1;\n2 0 1 0;\n3 0 0 1;\n";
-    is_shown(&rt, "no names", NAMED.as_bytes(), nameless);
-}
-
 static ROWS: [GameRow; 2] = [(Player::Even, 0, &[1]), (Player::Odd, 1, &[0])];
 
 // A writer without room for the whole text is given a beginning, and a fault is told.
-fn is_cut(rt: &(impl Abort + AllocGlobal), game: &Game, room: usize, at_end: AtEnd) {
+fn is_cut(rt: &impl Host, game: &Game, room: usize, at_end: AtEnd) {
     let mut out = narrow(rt, 4, room, at_end);
     let is_told = write_game(game, &mut out).is_err();
-    holds_for(rt, is_told && has_taken(&out, room, TWO), room);
+    holds_of(
+        rt,
+        is_told && has_taken(&out, room, TWO),
+        "room",
+        room as u64,
+    );
     drop(out);
 }
 

@@ -1,61 +1,35 @@
-// Games that were worked out by hand, in the order of PGSolver's format: a vertex, its priority, its owner (0 is Even) and
-// its successors.
+// Games that were worked out by hand, by their texts in PGSolver's format.
 
-ghost use Rattle.std.specs.Prelude.{◌≡◌, ◌<◌, ◌≤◌, length};
+ghost use Rattle.std.specs.Prelude.{◌≡◌, ◌<◌, ◌≤◌};
 ghost use Rattle.calculus.specs.Normal.{normal_nodes};
 ghost use Rattle.game.specs.Arena.{arena};
 
 use crate::common;
-use crate::common::{
-    form, game, game_by_hand, game_of, holds, is_either, push_step, repeated, same,
-};
+use crate::common::{form, game, game_by_hand, is_either, push_step, repeated, same};
 use calculus::form::Normal;
-use game::build::{build, build_split};
+use game::build::build_split;
 use game::error::BuildError;
 use game::graph::Game;
 use game::player::Player;
 use lts::Lts;
+use pgsolver::write_game;
 use samples::games::{GameRow, made};
+use samples::holds;
+use samples::host::Host;
+use samples::ring_games::{OFTEN_A, STEP};
 use samples::texts::{RING, form_of, system_read};
 use std::alloc::{AllocError, Global};
 use std::process::Abort;
-use std::thread::Threads;
 
-fn show_successors(text: &mut String, successors: &[u32]) -> Result<(), AllocError> {
-    for successor in successors {
-        let t = *successor;
-        write!(text, " {t}")?;
-    }
-    text.push('\n')
-}
-
-fn show_vertex(text: &mut String, game: &Game, v: u32) -> Result<(), AllocError>
-    requires { v < length game.now.vertices }
-{
-    let priority = game.priority(v);
-    let owner = match game.owner(v) {
-        Player::Even => 0,
-        Player::Odd => 1,
-    };
-    write!(text, "{v} {priority} {owner}")?;
-    show_successors(text, game.successors(v))
-}
-
-fn show_vertices(text: &mut String, game: &Game) -> Result<(), AllocError> {
-    for v in 0..game.vertices() {
-        show_vertex(text, game, v)?;
-    }
-    Ok(())
-}
-
-// A line for each vertex.
 fn shown(alloc: Global, game: &Game) -> Result<String, AllocError> {
-    let mut text = String::new(alloc);
-    show_vertices(&mut text, game)?;
-    Ok(text)
+    let mut text = Vec::new(alloc);
+    if write_game(game, &mut text).is_err() {
+        return Err(AllocError);
+    }
+    String::from_utf8(text).map_err(|_| AllocError)
 }
 
-// The game of a system and a normal form, or the refusal.
+// The game, or the refusal.
 fn text_of(alloc: Global, game: Result<Game, BuildError>) -> Result<String, AllocError> {
     match game {
         Ok(game) => {
@@ -67,75 +41,19 @@ fn text_of(alloc: Global, game: Result<Game, BuildError>) -> Result<String, Allo
     }
 }
 
-// The game of the texts of a system and a formula, or the refusal.
-fn built(rt: &(impl Abort + AllocGlobal + Threads + Sync), system: &str, formula: &str) -> String {
-    let lts = common::system(rt, system);
-    let form = form(rt, formula);
-    let game = build(rt, rt.alloc(), &lts, &form);
-    drop(form);
-    drop(lts);
-    text_of(rt.alloc(), game).expect(rt, "memory")
-}
-
-// The game where the states are cut into so many ranges, or the refusal, or `None` for want of memory for these.
-fn split_of(
-    rt: &(impl AllocGlobal + Threads + Sync),
-    lts: &Lts,
-    form: &Normal,
-    ranges: u32,
-) -> Option<String>
+// The game of texts, if they are a system and a formula, where the states are cut into so many ranges, or the refusal; `None` also for want of memory for
+// these.
+fn split(rt: &impl Host, system: &str, formula: &str, ranges: u32) -> Option<String>
     requires { 1 ≤ ranges }
 {
-    let game = build_split(rt, rt.alloc(), lts, form, ranges, None);
+    let lts = system_read(rt.alloc(), system).ok()?;
+    let form = form_of(rt.alloc(), formula)?;
+    let game = build_split(rt, rt.alloc(), &lts, &form, ranges, None);
     text_of(rt.alloc(), game).ok()
 }
 
-// The game of a formula's text, if it is one, where the states are cut into so many ranges, or the refusal.
-fn split_system(
-    rt: &(impl AllocGlobal + Threads + Sync),
-    lts: &Lts,
-    formula: &str,
-    ranges: u32,
-) -> Option<String>
-    requires { 1 ≤ ranges }
-{
-    match form_of(rt.alloc(), formula) {
-        Some(form) => {
-            let told = split_of(rt, lts, &form, ranges);
-            drop(form);
-            told
-        }
-        None => None,
-    }
-}
-
-// The game of texts, if they are a system and a formula, where the states are cut into so many ranges, or the refusal.
-fn split(
-    rt: &(impl AllocGlobal + Threads + Sync),
-    system: &str,
-    formula: &str,
-    ranges: u32,
-) -> Option<String>
-    requires { 1 ≤ ranges }
-{
-    match system_read(rt.alloc(), system) {
-        Ok(lts) => {
-            let told = split_system(rt, &lts, formula, ranges);
-            drop(lts);
-            told
-        }
-        Err(_) => None,
-    }
-}
-
 // However the states are cut into ranges the game is this.
-fn is_split(
-    rt: &(impl Abort + AllocGlobal + Threads + Sync),
-    system: &str,
-    formula: &str,
-    ranges: u32,
-    wanted: &str,
-)
+fn is_split(rt: &impl Host, system: &str, formula: &str, ranges: u32, wanted: &str)
     requires { 1 ≤ ranges }
 {
     let told = split(rt, system, formula, ranges).expect(rt, "texts");
@@ -144,53 +62,22 @@ fn is_split(
 }
 
 // As many ranges as states, fewer, and more, of which some have none.
-fn is_split_by_any(
-    rt: &(impl Abort + AllocGlobal + Threads + Sync),
-    system: &str,
-    formula: &str,
-    wanted: &str,
-) {
+fn is_split_by_any(rt: &impl Host, system: &str, formula: &str, wanted: &str) {
     is_split(rt, system, formula, 1, wanted);
     is_split(rt, system, formula, 2, wanted);
     is_split(rt, system, formula, 7, wanted);
 }
 
-fn is_built(
-    rt: &(impl Abort + AllocGlobal + Threads + Sync),
-    system: &str,
-    formula: &str,
-    wanted: &str,
-) {
-    let told = built(rt, system, formula);
-    same(rt, formula, told.as_str(), wanted);
-    drop(told);
-}
-
 // Systems, formulas, and their games.
 static GAMES: [(&str, &str, &str); 3] = [
-    (
-        RING,
-        "<a>true",
-        "0 0 0 0\n1 1 0 1\n2 0 0 5\n3 0 0 0\n4 0 0 1\n5 0 0 0\n",
-    ),
+    (RING, "<a>true", STEP),
     (
         "des (0,0,1)\n",
         "[true]false",
-        "0 0 0 0\n1 1 0 1\n2 0 1 0\n3 0 0 1\n",
+        "parity 3;\n0 0 0 0 \"true\";\n1 1 0 1 \"false\";\n2 0 1 0 \"0,0\";\n3 0 0 1 \"0,1\";\n",
     ),
-    (
-        RING,
-        "nu X. mu Y. (<a>X || <b>Y)",
-        "0 0 0 0\n1 1 0 1\n2 2 0 3\n3 1 0 4\n4 0 0 5 7\n5 0 0 13\n6 0 0 2\n7 0 0 1\n8 0 0 3\n9 2 0 10\n10 1 0 11\n11 0 0 12 14\n12 0 0 1\n13 0 0 9\n14 0 0 8\n15 0 0 10\n",
-    ),
+    (RING, "nu X. mu Y. (<a>X || <b>Y)", OFTEN_A),
 ];
-
-#[test]
-fn vertices_are_states_with_nodes(rt: HostRuntime) {
-    for (system, formula, wanted) in &GAMES {
-        is_built(&rt, system, formula, wanted);
-    }
-}
 
 #[test]
 fn each_split_gives_the_same_game(rt: HostRuntime) {
@@ -208,7 +95,11 @@ fn push_state(rt: &impl Abort, system: &mut String, wanted: &mut String, state: 
     let next = (state + 1) % RING_OF_NINE;
     let (step, truth, after) = (2 + 2 * state, 3 + 2 * state, 3 + 2 * next);
     push_step(rt, system, state, "a", next);
-    write!(wanted, "{step} 0 0 {after}\n{truth} 0 0 0\n").expect(rt, "memory");
+    write!(
+        wanted,
+        "{step} 0 0 {after} \"{state},0\";\n{truth} 0 0 0 \"{state},1\";\n"
+    )
+    .expect(rt, "memory");
 }
 
 fn push_states(rt: &impl Abort, system: &mut String, wanted: &mut String) {
@@ -221,7 +112,13 @@ fn push_states(rt: &impl Abort, system: &mut String, wanted: &mut String) {
 #[test]
 fn each_split_of_a_ring_gives_its_game(rt: HostRuntime) {
     let mut system = repeated(&rt, "des (0,9,9)\n", "", 0, "");
-    let mut wanted = repeated(&rt, "0 0 0 0\n1 1 0 1\n", "", 0, "");
+    let mut wanted = repeated(
+        &rt,
+        "parity 19;\n0 0 0 0 \"true\";\n1 1 0 1 \"false\";\n",
+        "",
+        0,
+        "",
+    );
     push_states(&rt, &mut system, &mut wanted);
     is_split_by_any(&rt, system.as_str(), "<a>true", wanted.as_str());
     is_split(
@@ -235,13 +132,7 @@ fn each_split_of_a_ring_gives_its_game(rt: HostRuntime) {
     drop(system);
 }
 
-fn is_split_or_refused(
-    rt: &(impl Abort + AllocGlobal + Threads + Sync),
-    system: &str,
-    formula: &str,
-    ranges: u32,
-    wanted: &str,
-)
+fn is_split_or_refused(rt: &impl Host, system: &str, formula: &str, ranges: u32, wanted: &str)
     requires { 1 ≤ ranges }
 {
     if let Some(told) = split(rt, system, formula, ranges) {
@@ -257,16 +148,6 @@ fn want_of_memory_is_told_as_such(rt: HostRuntime) {
         is_split_or_refused(&rt, system, formula, 1, wanted);
         is_split_or_refused(&rt, system, formula, 2, wanted);
     }
-}
-
-const MILLION: &str = "des (0,0,1000000)\n";
-
-// A million states with one node fit.
-#[test]
-fn a_million_states_have_vertices(rt: HostRuntime) {
-    let game = game_of(&rt, MILLION, "true");
-    holds!(&rt; game.vertices() == 1_000_002);
-    drop(game);
 }
 
 // The vertex of each state with each node.
@@ -290,21 +171,13 @@ fn vertices_are_known_by_their_names(rt: HostRuntime) {
     drop(lts);
 }
 
-// With seventeen nodes they don't.
-#[test]
-fn vertices_are_counted_before_they_are_made(rt: HostRuntime) {
-    let formula = repeated(&rt, "", "<a>", 16, "true");
-    is_built(&rt, MILLION, formula.as_str(), "B1");
-    drop(formula);
-}
-
 static THREE: [GameRow; 3] = [
     (Player::Even, 0, &[0]),
     (Player::Odd, 1, &[0, 2]),
     (Player::Even, 1, &[1]),
 ];
 
-fn is_shown(rt: &(impl Abort + AllocGlobal), game: &Game, wanted: &str) {
+fn is_shown(rt: &impl Host, game: &Game, wanted: &str) {
     let told = shown(rt.alloc(), game).expect(rt, "memory");
     same(rt, "three", told.as_str(), wanted);
     drop(told);
@@ -313,7 +186,7 @@ fn is_shown(rt: &(impl Abort + AllocGlobal), game: &Game, wanted: &str) {
 #[test]
 fn games_are_made_by_hand(rt: HostRuntime) {
     let game = game_by_hand(&rt, &THREE);
-    is_shown(&rt, &game, "0 0 0 0\n1 1 1 0 2\n2 1 0 1\n");
+    is_shown(&rt, &game, "parity 2;\n0 0 0 0;\n1 1 1 0,2;\n2 1 0 1;\n");
     holds!(&rt; game.count(1) == 2 && game.count(40) == 0);
     drop(game);
 }
@@ -328,7 +201,7 @@ static FAULTY: [[GameRow; 2]; 5] = [
     [(Player::Even, 0, &[]), (Player::Odd, 0, &[0])],
 ];
 
-fn is_game(rt: &(impl Abort + AllocGlobal), rows: &[GameRow]) -> bool {
+fn is_game(rt: &impl Host, rows: &[GameRow]) -> bool {
     made(rt, rows).expect(rt, "memory").is_some()
 }
 

@@ -4,13 +4,9 @@
 #[cfg(test)]
 mod batches;
 #[cfg(test)]
-mod canonical_texts;
-#[cfg(test)]
 mod common;
 #[cfg(test)]
-mod evidence_texts;
-#[cfg(test)]
-mod formula_texts;
+mod formulas;
 #[cfg(test)]
 mod game_texts;
 #[cfg(test)]
@@ -20,17 +16,11 @@ mod gauges;
 #[cfg(test)]
 mod good_evidence;
 #[cfg(test)]
-mod labels;
-#[cfg(test)]
 mod lines_and_tokens;
-#[cfg(test)]
-mod meanings;
 #[cfg(test)]
 mod meeting_labels;
 #[cfg(test)]
 mod normal_forms;
-#[cfg(test)]
-mod normal_texts;
 #[cfg(test)]
 mod plain_lines;
 #[cfg(test)]

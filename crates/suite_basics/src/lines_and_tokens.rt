@@ -1,6 +1,8 @@
 // Lines, tokens and pieces of texts, as docs/FORMATS.md has them of all texts and of systems: worked out by hand.
 
-use crate::common::{failing, holds, holds_for};
+use crate::common::{failing, holds_of};
+use samples::holds;
+use samples::host::Host;
 use samples::writers::{AMPLE, Narrow};
 use std::io::BufReader;
 use std::process::Abort;
@@ -23,7 +25,7 @@ static LINES: [(&str, &str); 10] = [
 ];
 
 // A reader of a text.
-fn reader<'t>(rt: &(impl Abort + AllocGlobal), text: &'t [u8]) -> BufReader<Noted<&'t [u8]>> {
+fn reader<'t>(rt: &impl Host, text: &'t [u8]) -> BufReader<Noted<&'t [u8]>> {
     blocks_of(rt.alloc(), text).expect(rt, "memory")
 }
 
@@ -56,7 +58,7 @@ fn take_lines<B: Blocks>(rt: &impl Abort, reader: &mut B, line: &mut Vec<u8>, sh
     }
 }
 
-fn has_lines(rt: &(impl Abort + AllocGlobal), text: &str, wanted: &str) {
+fn has_lines(rt: &impl Host, text: &str, wanted: &str) {
     let mut reader = reader(rt, text.as_bytes());
     let mut line = Vec::new(rt.alloc());
     let mut shown = Vec::new(rt.alloc());
@@ -147,65 +149,16 @@ static TEXT_ENDS: [(&str, Option<&str>); 7] = [
     ("\r ", None),
 ];
 
-fn is_rest(found: Option<&[u8]>, wanted: &Option<&str>) -> bool {
-    match (found, wanted) {
-        (Some(rest), Some(text)) => rest == text.as_bytes(),
-        (None, None) => true,
-        _ => false,
-    }
+fn rest_of<'a>(wanted: &Option<&'a str>) -> Option<&'a [u8]> {
+    wanted.map(|rest| rest.as_bytes())
 }
 
-fn is_number(found: Option<(u32, &[u8])>, wanted: &Option<(u32, &str)>) -> bool {
-    match (found, wanted) {
-        (Some((value, rest)), Some((number, text))) => value == *number && rest == text.as_bytes(),
-        (None, None) => true,
-        _ => false,
-    }
+fn number_of<'a>(wanted: &Option<(u32, &'a str)>) -> Option<(u32, &'a [u8])> {
+    wanted.map(|(number, rest)| (number, rest.as_bytes()))
 }
 
-fn is_quote(found: Option<(&[u8], &[u8])>, wanted: &Option<(&str, &str)>) -> bool {
-    match (found, wanted) {
-        (Some((quote, rest)), Some((inner, text))) => {
-            quote == inner.as_bytes() && rest == text.as_bytes()
-        }
-        (None, None) => true,
-        _ => false,
-    }
-}
-
-#[test]
-fn signs_are_found(rt: HostRuntime) {
-    for (line, token, wanted) in &SIGNS {
-        holds!(&rt; is_rest(sign(line.as_bytes(), token.as_bytes()), wanted), line);
-    }
-}
-
-#[test]
-fn ends_are_found(rt: HostRuntime) {
-    for (line, wanted) in &ENDS {
-        holds!(&rt; is_end(line.as_bytes()) == *wanted, line);
-    }
-}
-
-#[test]
-fn numbers_are_found(rt: HostRuntime) {
-    for (line, wanted) in &NUMBERS {
-        holds!(&rt; is_number(number(line.as_bytes()), wanted), line);
-    }
-}
-
-#[test]
-fn numbers_before_a_comma_are_found(rt: HostRuntime) {
-    for (line, wanted) in &BEFORE {
-        holds!(&rt; is_number(number_before(line.as_bytes(), b","), wanted), line);
-    }
-}
-
-#[test]
-fn quotes_are_found(rt: HostRuntime) {
-    for (line, wanted) in &QUOTES {
-        holds!(&rt; is_quote(quoted(line.as_bytes()), wanted), line);
-    }
+fn quote_of<'a>(wanted: &Option<(&'a str, &'a str)>) -> Option<(&'a [u8], &'a [u8])> {
+    wanted.map(|(quote, rest)| (quote.as_bytes(), rest.as_bytes()))
 }
 
 // What a reader has left where something was found.
@@ -216,38 +169,43 @@ fn left_by<'a>(found: Result<bool, ReadFault>, left: &'a [u8]) -> Option<&'a [u8
     }
 }
 
-fn has_sign(rt: &(impl Abort + AllocGlobal), text: &str, token: &str, wanted: &Option<&str>) {
-    let mut reader = reader(rt, text.as_bytes());
+fn has_sign(rt: &impl Host, text: &str, token: &str, wanted: &Option<&str>) {
+    let bytes = text.as_bytes();
+    holds!(rt; sign(bytes, token.as_bytes()) == rest_of(wanted), text);
+    let mut reader = reader(rt, bytes);
     let found = match token {
         "des" => stream::word(&mut reader, b"des"),
         _ => stream::sign(&mut reader, b'('),
     };
-    holds!(rt; is_rest(left_by(found, reader.buffer()), wanted), text);
+    holds!(rt; left_by(found, reader.buffer()) == rest_of(wanted), text);
     drop(reader);
 }
 
 #[test]
-fn signs_are_read(rt: HostRuntime) {
+fn signs_are_found(rt: HostRuntime) {
     for (text, token, wanted) in &SIGNS {
         has_sign(&rt, text, token, wanted);
     }
 }
 
-fn has_end(rt: &(impl Abort + AllocGlobal), text: &str, wanted: &Option<&str>) {
+fn has_end(rt: &impl Host, text: &str, wanted: &Option<&str>) {
     let mut reader = reader(rt, text.as_bytes());
     let found = stream::has_ended(&mut reader);
-    holds!(rt; is_rest(left_by(found, reader.buffer()), wanted), text);
+    holds!(rt; left_by(found, reader.buffer()) == rest_of(wanted), text);
     drop(reader);
 }
 
 #[test]
-fn ends_are_read(rt: HostRuntime) {
+fn ends_are_found(rt: HostRuntime) {
+    for (line, wanted) in &ENDS {
+        holds!(&rt; is_end(line.as_bytes()) == *wanted, line);
+    }
     for (text, wanted) in &TEXT_ENDS {
         has_end(&rt, text, wanted);
     }
 }
 
-fn has_line(rt: &(impl Abort + AllocGlobal), text: &[u8], is_so: bool) {
+fn has_line(rt: &impl Host, text: &[u8], is_so: bool) {
     let mut reader = reader(rt, text);
     holds!(rt; stream::has_line(&mut reader) == Ok(is_so));
     drop(reader);
@@ -265,48 +223,36 @@ fn number_by<'a>(
     found: Result<Option<u32>, ReadFault>,
     left: &'a [u8],
 ) -> Option<(u32, &'a [u8])> {
-    match found.expect(rt, "memory") {
-        Some(value) => Some((value, left)),
-        None => None,
-    }
+    found.expect(rt, "memory").map(|value| (value, left))
 }
 
-fn has_number(
-    rt: &(impl Abort + AllocGlobal),
+fn has_number(rt: &impl Host, digits: &mut Vec<u8>, text: &str, wanted: &Option<(u32, &str)>) {
+    holds!(rt; number(text.as_bytes()) == number_of(wanted), text);
+    let mut reader = reader(rt, text.as_bytes());
+    let found = stream::number(&mut reader, digits);
+    holds!(rt; number_by(rt, found, reader.buffer()) == number_of(wanted), text);
+    drop(reader);
+}
+
+fn has_number_before(
+    rt: &impl Host,
     digits: &mut Vec<u8>,
     text: &str,
     wanted: &Option<(u32, &str)>,
 ) {
+    holds!(rt; number_before(text.as_bytes(), b",") == number_of(wanted), text);
     let mut reader = reader(rt, text.as_bytes());
-    let found = stream::number(&mut reader, digits);
-    holds!(rt; is_number(number_by(rt, found, reader.buffer()), wanted), text);
+    let found = stream::number_before(&mut reader, b',', digits);
+    holds!(rt; number_by(rt, found, reader.buffer()) == number_of(wanted), text);
     drop(reader);
 }
 
 #[test]
-fn numbers_are_read(rt: HostRuntime) {
+fn numbers_are_found(rt: HostRuntime) {
     let mut digits = Vec::new(rt.alloc());
     for (text, wanted) in &NUMBERS {
         has_number(&rt, &mut digits, text, wanted);
     }
-    drop(digits);
-}
-
-fn has_number_before(
-    rt: &(impl Abort + AllocGlobal),
-    digits: &mut Vec<u8>,
-    text: &str,
-    wanted: &Option<(u32, &str)>,
-) {
-    let mut reader = reader(rt, text.as_bytes());
-    let found = stream::number_before(&mut reader, b',', digits);
-    holds!(rt; is_number(number_by(rt, found, reader.buffer()), wanted), text);
-    drop(reader);
-}
-
-#[test]
-fn numbers_before_a_comma_are_read(rt: HostRuntime) {
-    let mut digits = Vec::new(rt.alloc());
     for (text, wanted) in &BEFORE {
         has_number_before(&rt, &mut digits, text, wanted);
     }
@@ -325,20 +271,16 @@ fn quote_by<'a>(
     }
 }
 
-fn has_quote(
-    rt: &(impl Abort + AllocGlobal),
-    kept: &mut Vec<u8>,
-    text: &str,
-    wanted: &Option<(&str, &str)>,
-) {
+fn has_quote(rt: &impl Host, kept: &mut Vec<u8>, text: &str, wanted: &Option<(&str, &str)>) {
+    holds!(rt; quoted(text.as_bytes()) == quote_of(wanted), text);
     let mut reader = reader(rt, text.as_bytes());
     let found = stream::quoted(&mut reader, 9, kept);
-    holds!(rt; is_quote(quote_by(found, kept.as_slice(), reader.buffer()), wanted), text);
+    holds!(rt; quote_by(found, kept.as_slice(), reader.buffer()) == quote_of(wanted), text);
     drop(reader);
 }
 
 #[test]
-fn quotes_are_read(rt: HostRuntime) {
+fn quotes_are_found(rt: HostRuntime) {
     let mut kept = Vec::new(rt.alloc());
     for (text, wanted) in &QUOTES {
         has_quote(&rt, &mut kept, text, wanted);
@@ -368,17 +310,22 @@ static PIECES: [Piece<'static>; 5] = [
 const JOINED: &[u8] = b"system 1000000 states 18446744073709551615";
 
 // A writer with so much room is given a beginning, and a fault is told unless it is all.
-fn is_put(rt: &(impl Abort + AllocGlobal), step: usize, room: usize) {
+fn is_put(rt: &impl Host, step: usize, room: usize) {
     let mut out = Narrow::new(rt.alloc(), step, room);
     let is_whole = put_pieces(&mut out, &PIECES).is_ok();
     let front = room.min(JOINED.len());
-    holds_for(rt, is_whole == (room >= JOINED.len()), room);
-    holds_for(rt, out.taken.as_slice() == &JOINED[..front], room);
+    holds_of(rt, is_whole == (room >= JOINED.len()), "room", room as u64);
+    holds_of(
+        rt,
+        out.taken.as_slice() == &JOINED[..front],
+        "room",
+        room as u64,
+    );
     drop(out);
 }
 
 // A writer with room for all is given all, and one with too little, however little, a beginning and a fault.
-fn is_put_anywhere(rt: &(impl Abort + AllocGlobal), step: usize) {
+fn is_put_anywhere(rt: &impl Host, step: usize) {
     is_put(rt, step, AMPLE);
     for room in 0..JOINED.len() {
         is_put(rt, step, room);

@@ -1,8 +1,10 @@
 // Labels that are made to meet under a known hash: of each pair of eight bytes either may stand, and 64-bit FNV-1a agrees in its lowest fifty bits on
 // both. Another program looked for the pairs.
 
-use crate::common::{holds, push_step, push_text, repeated, system};
+use crate::common::{push_step, push_text, repeated, system};
 use lts::Lts;
+use samples::holds;
+use samples::host::Host;
 use std::process::Abort;
 
 static PAIRS: [(&str, &str); 7] = [
@@ -27,7 +29,7 @@ fn push_parts(rt: &impl Abort, text: &mut String, number: u32) {
 }
 
 // Of each pair the first or the second, as the digits of the number say.
-fn label(rt: &(impl Abort + AllocGlobal), number: u32) -> String {
+fn label(rt: &impl Host, number: u32) -> String {
     let mut text = String::new(rt.alloc());
     push_parts(rt, &mut text, number);
     text
@@ -36,7 +38,7 @@ fn label(rt: &(impl Abort + AllocGlobal), number: u32) -> String {
 const STATES: u32 = 2 * LABELS;
 
 // The step from a state to the next one.
-fn push_state(rt: &(impl Abort + AllocGlobal), text: &mut String, state: u32) {
+fn push_state(rt: &impl Host, text: &mut String, state: u32) {
     let label = label(rt, state % LABELS);
     push_step(
         rt,
@@ -49,7 +51,7 @@ fn push_state(rt: &(impl Abort + AllocGlobal), text: &mut String, state: u32) {
 }
 
 // A ring of twice as many states, from each of which one step leads on: each label stands on two of them.
-fn ring(rt: &(impl Abort + AllocGlobal)) -> String {
+fn ring(rt: &impl Host) -> String {
     let mut text = repeated(rt, "des (0,256,256)\n", "", 0, "");
     for state in 0..STATES {
         push_state(rt, &mut text, state);
@@ -68,13 +70,13 @@ fn label_from(system: &Lts, state: u32) -> Option<&[u8]> {
     }
 }
 
-fn has_label(rt: &(impl Abort + AllocGlobal), system: &Lts, state: u32) {
+fn has_label(rt: &impl Host, system: &Lts, state: u32) {
     let wanted = label(rt, state % LABELS);
     holds!(rt; label_from(system, state) == Some(wanted.as_bytes()), wanted.as_str());
     drop(wanted);
 }
 
-fn have_labels(rt: &(impl Abort + AllocGlobal), system: &Lts) {
+fn have_labels(rt: &impl Host, system: &Lts) {
     for state in 0..STATES {
         has_label(rt, system, state);
     }

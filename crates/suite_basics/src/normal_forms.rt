@@ -1,15 +1,19 @@
 // Normal forms, worked out by hand: negations moved inwards by the equations of Kozen 1983, and nodes in preorder.
 
-use crate::common::{form, holds, is_either, repeated, same};
+use crate::common::{form, formula, has_taken, holds_of, is_either, repeated, same};
 use calculus::closed::Closed;
 use calculus::form::Normal;
 use calculus::node::Kind;
+use calculus::priorities::Priorities;
 use calculus::tree::Act;
 use normal::count::counted_nodes;
-use normal::make::normal;
+use normal::make::{normal, normal_with};
+use normal::printer::print_normal;
+use samples::holds;
+use samples::host::Host;
 use samples::texts::parsed_formula;
+use samples::writers::Narrow;
 use std::alloc::{AllocError, Global};
-use std::process::Abort;
 
 // The name of a multi-action of one name of these tests.
 fn letter(action: &Act) -> &'static str {
@@ -43,20 +47,7 @@ fn shape(kind: &Kind) -> NodeShape {
 // A shape, and the priority.
 type NodeRow = (&'static str, u32, u32, &'static str, u32);
 
-// The nodes of `<a + + b>true`.
-static CHOICE: [NodeRow; 9] = [
-    ("or", 1, 7, "", 0),
-    ("dia", 2, 0, "a", 0),
-    ("mu", 3, 0, "", 1),
-    ("or", 4, 5, "", 0),
-    ("true", 0, 0, "", 0),
-    ("dia", 6, 0, "a", 0),
-    ("var", 2, 0, "", 0),
-    ("dia", 8, 0, "b", 0),
-    ("true", 0, 0, "", 0),
-];
-
-// Those of `!(<a>true && mu X. [b]X)`.
+// The nodes of `!(<a>true && mu X. [b]X)`.
 static NEGATION: [NodeRow; 6] = [
     ("or", 1, 3, "", 0),
     ("box", 2, 0, "a", 0),
@@ -80,16 +71,11 @@ fn has_nodes(form: &Normal, nodes: &[NodeRow]) -> bool {
     true
 }
 
-fn is_numbered(rt: &(impl Abort + AllocGlobal), text: &str, nodes: &[NodeRow]) {
-    let form = form(rt, text);
-    holds!(rt; has_nodes(&form, nodes), text);
-    drop(form);
-}
-
 #[test]
 fn nodes_are_numbered_in_preorder(rt: HostRuntime) {
-    is_numbered(&rt, "<a + + b>true", &CHOICE);
-    is_numbered(&rt, "!(<a>true && mu X. [b]X)", &NEGATION);
+    let form = form(&rt, "!(<a>true && mu X. [b]X)");
+    holds!(&rt; has_nodes(&form, &NEGATION));
+    drop(form);
 }
 
 // How many nodes are counted, how many there are and how deep binders alternate.
@@ -123,16 +109,15 @@ fn size(alloc: Global, text: &str) -> Option<String> {
     }
 }
 
-fn is_sized(rt: &(impl Abort + AllocGlobal), what: &str, text: &str, wanted: &str) {
+fn is_sized(rt: &impl Host, what: &str, text: &str, wanted: &str) {
     let told = size(rt.alloc(), text).expect(rt, "a formula");
     same(rt, what, told.as_str(), wanted);
     drop(told);
 }
 
 // A beginning, a piece and how often it stands, and an end; and what is shown.
-static SIZES: [(&str, &str, usize, &str, &str); 6] = [
+static SIZES: [(&str, &str, usize, &str, &str); 5] = [
     ("<a + + b>true", "", 0, "", "9 9 1"),
-    ("!(<a>true && mu X. [b]X)", "", 0, "", "6 6 1"),
     ("<c><c><c><", "(a+b).", 9, "(a+b)>true", "4096 4096 0"),
     ("<c><c><c><c><", "(a+b).", 9, "(a+b)>true", "N1"),
     ("mu X. ", "nu X. mu X. ", 15, "true", "32 32 31"),
@@ -154,4 +139,32 @@ fn want_of_memory_is_told_as_such(rt: HostRuntime) {
         is_either(&rt, told.as_str(), "9 9 2", "N3");
         drop(told);
     }
+}
+
+const NEGATED: &str =
+    "nodes 6 priority 0 depth 1\n0 or 0 1 3\n1 box 0 2 a\n2 false 0\n3 nu 0 4\n4 dia 0 5 b\n5 var 0 3\n";
+
+// A writer with so much room has the beginning of the text, and is told of a fault just where that isn't all.
+fn is_written(rt: &impl Host, form: &Normal, room: usize) {
+    let mut out = Narrow::new(rt.alloc(), 7, room);
+    let is_whole = print_normal(form, &mut out).is_ok();
+    holds_of(rt, is_whole == (room >= NEGATED.len()), "room", room as u64);
+    holds_of(
+        rt,
+        has_taken(&out, room.min(NEGATED.len()), NEGATED),
+        "room",
+        room as u64,
+    );
+    drop(out);
+}
+
+#[test]
+fn texts_are_written_as_far_as_there_is_room(rt: HostRuntime) {
+    let formula = formula(&rt, "!(<a>true && mu X. [b]X)");
+    let form = normal_with(rt.alloc(), &formula, Priorities::Dependent).expect(&rt, "a form");
+    drop(formula);
+    for room in 0..=NEGATED.len() {
+        is_written(&rt, &form, room);
+    }
+    drop(form);
 }

@@ -5,9 +5,9 @@
 use crate::common::{repeated, same, slow};
 use lts::{Lts, read_aut, write_aut};
 use samples::dice::Dice;
+use samples::host::Host;
 use samples::texts::{ring, unseeded};
 use std::alloc::{AllocError, Global};
-use std::process::Abort;
 
 // The text of a system.
 fn text_of(alloc: Global, lts: &Lts) -> Result<String, AllocError> {
@@ -19,7 +19,7 @@ fn text_of(alloc: Global, lts: &Lts) -> Result<String, AllocError> {
 }
 
 // The canonical text of the system, or the refusal.
-fn told(rt: &(impl Abort + AllocGlobal), text: &[u8], step: usize) -> String {
+fn told(rt: &impl Host, text: &[u8], step: usize) -> String {
     let told = match read_aut(rt.alloc(), unseeded(), slow(text, step)) {
         Ok(lts) => {
             let text = text_of(rt.alloc(), &lts);
@@ -31,14 +31,14 @@ fn told(rt: &(impl Abort + AllocGlobal), text: &[u8], step: usize) -> String {
     told.expect(rt, "memory")
 }
 
-fn is_told(rt: &(impl Abort + AllocGlobal), text: &[u8], step: usize, wanted: &str) {
+fn is_told(rt: &impl Host, text: &[u8], step: usize, wanted: &str) {
     let told = told(rt, text, step);
     same(rt, wanted, told.as_str(), wanted);
     drop(told);
 }
 
 // A byte at a time, less than a line, and more than a block.
-fn tells(rt: &(impl Abort + AllocGlobal), text: &[u8], wanted: &str) {
+fn tells(rt: &impl Host, text: &[u8], wanted: &str) {
     is_told(rt, text, 1, wanted);
     is_told(rt, text, 7, wanted);
     is_told(rt, text, 10_000, wanted);
@@ -96,7 +96,7 @@ static BAD_LINES: [(&str, &str); 28] = [
     ("(10,\"a\",18446744073709551625)\n", "A4 at line 3"),
 ];
 
-fn tells_with(rt: &(impl Abort + AllocGlobal), line: &str, wanted: &str) {
+fn tells_with(rt: &impl Host, line: &str, wanted: &str) {
     let text = repeated(rt, BEFORE, line, 1, AFTER);
     tells(rt, text.as_bytes(), wanted);
     drop(text);
@@ -128,7 +128,7 @@ static CUTS: [(usize, usize, &str); 8] = [
     (50, 51, GOOD),
 ];
 
-fn are_cut(rt: &(impl Abort + AllocGlobal), least: usize, most: usize, wanted: &str) {
+fn are_cut(rt: &impl Host, least: usize, most: usize, wanted: &str) {
     for length in least..=most {
         tells(rt, &GOOD.as_bytes()[..length.min(GOOD.len())], wanted);
     }
@@ -170,14 +170,14 @@ fn spoil(dice: &mut Dice, text: &mut [u8]) {
 }
 
 // A text of good lines, in which some bytes are put in the place of others.
-fn roll_text(rt: &(impl Abort + AllocGlobal), dice: &mut Dice) -> Vec<u8> {
+fn roll_text(rt: &impl Host, dice: &mut Dice) -> Vec<u8> {
     let mut text = Vec::from_slice(rt.alloc(), GOOD.as_bytes()).expect(rt, "memory");
     spoil(dice, text.as_mut_slice());
     text
 }
 
 // A text is told of as it is where a byte comes at a time.
-fn tells_alike(rt: &(impl Abort + AllocGlobal), text: &[u8]) {
+fn tells_alike(rt: &impl Host, text: &[u8]) {
     let wanted = told(rt, text, 1);
     tells(rt, text, wanted.as_str());
     drop(wanted);

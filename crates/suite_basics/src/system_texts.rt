@@ -1,8 +1,10 @@
 // Texts of systems and what is wrong with them: the Aldebaran format of the mCRL2 manual, with its limits and codes as
 // docs/FORMATS.md has them. States and transitions were counted by hand.
 
-use crate::common::{failing, holds, is_either, same, slow, system};
+use crate::common::{failing, is_either, same, slow, system};
 use lts::{Lts, Transition, read_aut};
+use samples::holds;
+use samples::host::Host;
 use samples::readers::Halting;
 use samples::texts::{RING, unseeded};
 use std::alloc::{AllocError, Global};
@@ -29,42 +31,28 @@ fn counts(alloc: Global, lts: &Lts) -> Result<String, AllocError> {
     format!(in alloc; "{states} {initial} {transitions} {labels}")
 }
 
-// Texts, and what is shown of each.
-static TEXTS: [(&str, &str); 21] = [
+// Texts, and what is shown of each. tests/answers and tests/hostile have many more that are refused.
+static TEXTS: [(&str, &str); 10] = [
     (RING, "2 0 2 2"),
-    ("", "A1 at line 1"),
-    ("des (0,2,2)\n(0,\"a\",1)\n", "A5 at line 3"),
-    ("des (0,2,2)\n(0,\"a\",1)\n(1,\"b", "A2 at line 3"),
-    (
-        "des (0,2,2)\n(0,\"a\",2)\n(0,\"a\",1)\n(1,\"b\",0)\n",
-        "A4 at line 2",
-    ),
-    ("des (0,0,0)", "A6 at line 1"),
     ("des ( 0 , 1 , 1 )\r\n\t(0,\"tau\",0)", "1 0 1 1"),
     ("des (0,2,2)\n(0,\"a\",1)\n(0,\"a\",1)\n", "2 0 1 1"),
     ("des (0,0,1000000)", "1000000 0 0 0"),
-    ("des (0,0,1000001)", "A3 at line 1"),
-    ("des (0,0,1)\n\n", "A5 at line 2"),
-    ("des (0,1,1)\n(0,\"\",0)\n", "A7 at line 2"),
-    ("des (0,1,1)\r\n(0,\"a\",0)\r", "1 0 1 1"),
-    ("des (0,1,1)\n(0,\"a\",0)\r\r\n", "A2 at line 2"),
-    ("des (0,1,1)\n(0,\"a\r\",0)\n", "A7 at line 2"),
-    ("des (0,1,1)\n(0,\"a\r\n", "A2 at line 2"),
-    ("des (0,1,1)\n(0,\"a\",4294967296)\n", "A4 at line 2"),
-    ("des (0,1,1)\n(0,\"a\",00)\n", "A2 at line 2"),
-    ("des (0,99999999999999999999999,1)", "A3 at line 1"),
     ("des (0,0,1)\r", "1 0 0 0"),
     ("dess (0,0,1)", "A1 at line 1"),
+    ("des (0,99999999999999999999999,1)", "A3 at line 1"),
+    ("des (0,2,2)\n(0,\"a\",1)\n", "A5 at line 3"),
+    ("des (0,0,1)\n\n", "A5 at line 2"),
+    ("des (0,0,0)", "A6 at line 1"),
 ];
 
 // What is shown of what a reader gives is this.
-fn is_shown<R: Read + Drop>(rt: &(impl Abort + AllocGlobal), what: &str, reader: R, wanted: &str) {
+fn is_shown<R: Read + Drop>(rt: &impl Host, what: &str, reader: R, wanted: &str) {
     let told = shown(rt.alloc(), reader).expect(rt, "memory");
     same(rt, what, told.as_str(), wanted);
     drop(told);
 }
 
-fn shows(rt: &(impl Abort + AllocGlobal), text: &str, wanted: &str) {
+fn shows(rt: &impl Host, text: &str, wanted: &str) {
     is_shown(rt, text, slow(text.as_bytes(), 1), wanted);
     is_shown(rt, text, slow(text.as_bytes(), 7), wanted);
     is_shown(rt, text, slow(text.as_bytes(), 8192), wanted);
@@ -87,10 +75,7 @@ fn a_failed_read_is_told_wherever_it_comes(rt: HostRuntime) {
 
 #[test]
 fn an_interrupted_read_is_tried_again(rt: HostRuntime) {
-    let reader = Halting {
-        left: RING.as_bytes(),
-        is_interrupted: false,
-    };
+    let reader = Halting::whole(RING.as_bytes());
     is_shown(&rt, RING, reader, "2 0 2 2");
 }
 
@@ -120,7 +105,7 @@ fn push_labels(rt: &impl Abort, text: &mut Vec<u8>, lts: &Lts, state: u32) {
     }
 }
 
-fn moves(rt: &(impl Abort + AllocGlobal), lts: &Lts, state: u32, labels: &str) {
+fn moves(rt: &impl Host, lts: &Lts, state: u32, labels: &str) {
     let mut text = Vec::new(rt.alloc());
     push_labels(rt, &mut text, lts, state);
     holds!(rt; text.as_slice() == labels.as_bytes(), labels);

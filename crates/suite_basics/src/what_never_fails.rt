@@ -3,10 +3,10 @@
 ghost use Rattle.std.specs.Prelude.{◌≢◌, false, None, IfErr, IsOk};
 ghost use Rattle.lts.specs.declared.error.AutError.TheVariants as errors;
 
-use crate::common::holds;
 use lts::error::AutError;
 use lts::reader::read_aut;
 use lts::system::Lts;
+use samples::holds;
 use samples::texts::unseeded;
 use std::alloc::Global;
 use std::io;

@@ -8,61 +8,29 @@ ghost use Rattle.game.specs.Arena.{arena};
 ghost use Rattle.game.specs.Game.{greatest};
 
 use crate::common::{
-    form, formula, game, has_all, has_taken, holds, holds_for, narrow, normal_form, push_step,
-    system,
+    even_of, form, formula, game, has_all, has_taken, holds_of, narrow, normal_form, odd_of,
+    push_step, system,
 };
 use calculus::closed::Closed;
 use calculus::form::Normal;
 use calculus::label_sets::label_sets;
 use calculus::limits::GREATEST_PRIORITY;
 use evidence::evidence::Evidence;
-use evidence::make::{even_evidence, odd_evidence};
 use game::graph::Game;
 use lts::{Lts, Transition, read_aut, write_part};
 use meaning::plain::plain_states;
-use measures::settle::solve_one;
-use measures::table::Settled;
 use samples::dice::Dice;
+use samples::holds;
+use samples::host::Host;
 use samples::texts::{RING, unseeded};
 use samples::writers::{AMPLE, AtEnd, Narrow};
 use std::process::Abort;
-use std::thread::Threads;
 use witness::drawing::write_drawing;
 use witness::part::{has_root, witness};
 
-// To its second state by `a`, and there round by `b`.
-const STAYS: &str = "des (0,2,2)\n(0,\"a\",1)\n(1,\"b\",1)\n";
-
-// By `a` to two states, of which one goes on.
-const BRANCH: &str = "des (0,4,3)\n(0,\"a\",1)\n(0,\"a\",2)\n(0,\"b\",1)\n(1,\"b\",2)\n";
-
-fn solved(rt: &(impl Abort + AllocGlobal), game: &Game) -> Settled
-    ensures { result.game ≡ game.now }
-{
-    solve_one(rt.alloc(), game).expect(rt, "memory")
-}
-
-fn evens(rt: &(impl Abort + AllocGlobal), game: &Game) -> Evidence
-    ensures game { result.game ≡ game.now }
-    ensures good { IsGood game.now result.evidence }
-{
-    let settled = solved(rt, game);
-    let even = even_evidence(rt.alloc(), game, &settled).expect(rt, "memory");
-    drop(settled);
-    even
-}
-
-fn odds(rt: &(impl Abort + AllocGlobal), game: &Game) -> Evidence
-    requires low { greatest game.now ≤ GREATEST_PRIORITY }
-    ensures game { result.game ≡ game.now }
-    ensures good { IsGood game.now result.evidence }
-{
-    odd_evidence(rt.alloc(), game).expect(rt, "memory")
-}
-
 // The witness of a player, where the player wins at the initial state.
 fn part_of_player(
-    rt: &(impl Abort + AllocGlobal),
+    rt: &impl Host,
     system: &Lts,
     normal: &Normal,
     game: &Game,
@@ -81,7 +49,7 @@ fn part_of_player(
 
 // The witness of Even, where Even wins at the initial state.
 fn part_of_even(
-    rt: &(impl Abort + AllocGlobal),
+    rt: &impl Host,
     system: &Lts,
     normal: &Normal,
     game: &Game,
@@ -89,36 +57,26 @@ fn part_of_even(
     requires game { game.now ≡ arena system.now.system (normal_nodes normal.now) }
     ensures { IfSome result (λ part. IsInside system.now part.items) }
 {
-    let even = evens(rt, game);
+    let even = even_of(rt, game);
     let part = part_of_player(rt, system, normal, game, &even);
     drop(even);
     part
 }
 
 // The witness of Odd, who wins there.
-fn part_of_odd(
-    rt: &(impl Abort + AllocGlobal),
-    system: &Lts,
-    normal: &Normal,
-    game: &Game,
-) -> Vec<Transition>
+fn part_of_odd(rt: &impl Host, system: &Lts, normal: &Normal, game: &Game) -> Vec<Transition>
     requires game { game.now ≡ arena system.now.system (normal_nodes normal.now) }
     requires low { greatest game.now ≤ GREATEST_PRIORITY }
     ensures { IsInside system.now result.items }
 {
-    let odd = odds(rt, game);
+    let odd = odd_of(rt, game);
     let part = part_of_player(rt, system, normal, game, &odd);
     drop(odd);
     part.expect(rt, "a winner")
 }
 
 // The witness of the player who wins at the initial state.
-fn part_of_game(
-    rt: &(impl Abort + AllocGlobal),
-    system: &Lts,
-    normal: &Normal,
-    game: &Game,
-) -> Vec<Transition>
+fn part_of_game(rt: &impl Host, system: &Lts, normal: &Normal, game: &Game) -> Vec<Transition>
     requires game { game.now ≡ arena system.now.system (normal_nodes normal.now) }
     requires low { greatest game.now ≤ GREATEST_PRIORITY }
     ensures { IsInside system.now result.items }
@@ -130,11 +88,7 @@ fn part_of_game(
 }
 
 // The witness of a formula.
-fn part_of(
-    rt: &(impl Abort + AllocGlobal + Threads + Sync),
-    system: &Lts,
-    formula: &Closed,
-) -> Vec<Transition>
+fn part_of(rt: &impl Host, system: &Lts, formula: &Closed) -> Vec<Transition>
     ensures { IsInside system.now result.items }
 {
     let normal = normal_form(rt, formula);
@@ -146,7 +100,7 @@ fn part_of(
 }
 
 // The text of a part.
-fn written(rt: &(impl Abort + AllocGlobal), system: &Lts, part: &[Transition]) -> Vec<u8>
+fn written(rt: &impl Host, system: &Lts, part: &[Transition]) -> Vec<u8>
     requires { IsInside system.now part.now }
 {
     let mut out = Narrow::new(rt.alloc(), 5, AMPLE);
@@ -154,12 +108,8 @@ fn written(rt: &(impl Abort + AllocGlobal), system: &Lts, part: &[Transition]) -
     out.taken
 }
 
-fn read(rt: &(impl Abort + AllocGlobal), bytes: &[u8]) -> Lts {
-    read_aut(rt.alloc(), unseeded(), bytes).expect(rt, "a system")
-}
-
 // The states where a formula holds.
-fn meant(rt: &(impl Abort + AllocGlobal), system: &Lts, formula: &Closed) -> Vec<bool> {
+fn meant(rt: &impl Host, system: &Lts, formula: &Closed) -> Vec<bool> {
     plain_states(rt.alloc(), system, formula).expect(rt, "memory")
 }
 
@@ -169,7 +119,7 @@ fn is_marked(marks: &[bool], state: u32) -> bool {
 }
 
 // Whether the formula holds at the initial state, by sets of states.
-fn holds_at_first(rt: &(impl Abort + AllocGlobal), system: &Lts, formula: &Closed) -> bool {
+fn holds_at_first(rt: &impl Host, system: &Lts, formula: &Closed) -> bool {
     let marks = meant(rt, system, formula);
     let is_marked = is_marked(marks.as_slice(), system.initial());
     drop(marks);
@@ -178,81 +128,29 @@ fn holds_at_first(rt: &(impl Abort + AllocGlobal), system: &Lts, formula: &Close
 
 // The text of a part is read as a system, in which the formula holds at the initial state where it holds there in the whole.
 fn is_shown(
-    rt: &(impl Abort + AllocGlobal),
+    rt: &impl Host,
     system: &Lts,
     formula: &Closed,
     bytes: &[u8],
     transitions: usize,
     text: &str,
 ) {
-    let read = read(rt, bytes);
+    let read = read_aut(rt.alloc(), unseeded(), bytes).expect(rt, "a system");
     let first = holds_at_first(rt, system, formula);
     holds!(rt; holds_at_first(rt, &read, formula) == first, text);
     holds!(rt; read.states() == system.states() && read.transitions() == transitions, text);
     drop(read);
 }
 
-// The part of a formula is a system that shows what the whole does. It answers the part's text.
-fn shows_part(
-    rt: &(impl Abort + AllocGlobal + Threads + Sync),
-    system: &Lts,
-    formula: &Closed,
-    text: &str,
-) -> Vec<u8> {
-    let part = part_of(rt, system, formula);
-    let bytes = written(rt, system, part.as_slice());
-    is_shown(rt, system, formula, bytes.as_slice(), part.len(), text);
-    drop(part);
-    bytes
-}
-
-// The part of a text's formula is a system that shows what the whole does. It answers the part's text.
-fn shows(rt: &(impl Abort + AllocGlobal + Threads + Sync), system: &Lts, text: &str) -> Vec<u8> {
+// The part of a text's formula is a system that shows what the whole does.
+fn shows(rt: &impl Host, system: &Lts, text: &str) {
     let formula = formula(rt, text);
-    let bytes = shows_part(rt, system, &formula, text);
-    drop(formula);
-    bytes
-}
-
-// Systems, formulas, and the parts on which the answers rest, worked out by hand.
-static ROWS: [(&str, &str, &str); 13] = [
-    (RING, "<a>true", "des (0,1,2)\n(0,\"a\",1)\n"),
-    (RING, "[a]false", "des (0,1,2)\n(0,\"a\",1)\n"),
-    (RING, "[b]false", "des (0,0,2)\n"),
-    (RING, "<b>true", "des (0,0,2)\n"),
-    (RING, "nu X. mu Y. (<a>X || <b>Y)", RING),
-    (RING, "mu X. (<a>X || nu X. <b>X)", RING),
-    (STAYS, "<a>true", "des (0,1,2)\n(0,\"a\",1)\n"),
-    (STAYS, "[a]false", "des (0,1,2)\n(0,\"a\",1)\n"),
-    (STAYS, "nu X. mu Y. (<a>X || <b>Y)", STAYS),
-    (STAYS, "mu X. (<a>X || nu X. <b>X)", STAYS),
-    (BRANCH, "<a>true", "des (0,1,3)\n(0,\"a\",1)\n"),
-    (BRANCH, "[a]<b>true", "des (0,1,3)\n(0,\"a\",2)\n"),
-    (
-        BRANCH,
-        "[a]true && <a><b>true",
-        "des (0,3,3)\n(0,\"a\",1)\n(0,\"a\",2)\n(1,\"b\",2)\n",
-    ),
-];
-
-fn rests_on(
-    rt: &(impl Abort + AllocGlobal + Threads + Sync),
-    text: &str,
-    formula: &str,
-    wanted: &str,
-) {
-    let system = system(rt, text);
-    let bytes = shows(rt, &system, formula);
-    holds!(rt; bytes.as_slice() == wanted.as_bytes(), formula);
+    let part = part_of(rt, system, &formula);
+    let bytes = written(rt, system, part.as_slice());
+    is_shown(rt, system, &formula, bytes.as_slice(), part.len(), text);
     drop(bytes);
-    drop(system);
-}
-
-#[test]
-fn parts_have_what_the_answer_rests_on(rt: HostRuntime) {
-    for (system, formula, wanted) in &ROWS {
-        rests_on(&rt, system, formula, wanted);
-    }
+    drop(part);
+    drop(formula);
 }
 
 // ---- systems at random
@@ -297,18 +195,12 @@ fn roll_lines(rt: &impl Abort, dice: &mut Dice, lines: &mut String, states: u32)
     count
 }
 
-fn system_text(
-    rt: &(impl Abort + AllocGlobal),
-    initial: u32,
-    count: u32,
-    states: u32,
-    lines: &str,
-) -> String {
+fn system_text(rt: &impl Host, initial: u32, count: u32, states: u32, lines: &str) -> String {
     format!(in rt.alloc(); "des ({initial},{count},{states})\n{lines}").expect(rt, "memory")
 }
 
 // A system of so many states, with a transition by one of three labels from each state to some.
-fn roll_system(rt: &(impl Abort + AllocGlobal), dice: &mut Dice, states: u32) -> Lts
+fn roll_system(rt: &impl Host, dice: &mut Dice, states: u32) -> Lts
     requires { 0 < states }
 {
     let mut lines = String::new(rt.alloc());
@@ -322,9 +214,9 @@ fn roll_system(rt: &(impl Abort + AllocGlobal), dice: &mut Dice, states: u32) ->
 }
 
 // A part of each formula.
-fn shows_all(rt: &(impl Abort + AllocGlobal + Threads + Sync), system: &Lts) {
+fn shows_all(rt: &impl Host, system: &Lts) {
     for formula in &FORMULAS {
-        drop(shows(rt, system, formula));
+        shows(rt, system, formula);
     }
 }
 
@@ -346,29 +238,26 @@ const DRAWN: &str = "des (1,3,4)\n(0,\"c\",1)\n(1,\"a\\n\",0)\n(1,\"b|a\",3)\n";
 const DRAWING: &str =
     "digraph witness {\n  rankdir=LR;\n  node [shape=circle];\n  1 [shape=doublecircle];\n  0 -> 1 [label=\"c\"];\n  1 -> 0 [label=\"a\\\\n\"];\n  1 -> 3 [label=\"b|a\"];\n}\n";
 
-static STEPS: [usize; 3] = [1, 7, 8192];
-
-fn is_drawn(rt: &(impl Abort + AllocGlobal), system: &Lts, step: usize) {
-    let mut out = Narrow::new(rt.alloc(), step, AMPLE);
-    holds!(rt; write_drawing(system, system.all(), &mut out).is_ok());
-    holds!(rt; has_all(&out, DRAWING));
-    drop(out);
-}
-
 #[test]
 fn drawings_are_to_the_letter(rt: HostRuntime) {
     let system = system(&rt, DRAWN);
-    for step in &STEPS {
-        is_drawn(&rt, &system, *step);
-    }
+    let mut out = Narrow::new(rt.alloc(), 7, AMPLE);
+    holds!(&rt; write_drawing(&system, system.all(), &mut out).is_ok());
+    holds!(&rt; has_all(&out, DRAWING));
+    drop(out);
     drop(system);
 }
 
 // A writer without room for the whole is given a beginning, and a fault is told.
-fn is_cut(rt: &(impl Abort + AllocGlobal), system: &Lts, room: usize, at_end: AtEnd) {
+fn is_cut(rt: &impl Host, system: &Lts, room: usize, at_end: AtEnd) {
     let mut out = narrow(rt, 4, room, at_end);
     let is_told = write_drawing(system, system.all(), &mut out).is_err();
-    holds_for(rt, is_told && has_taken(&out, room, DRAWING), room);
+    holds_of(
+        rt,
+        is_told && has_taken(&out, room, DRAWING),
+        "room",
+        room as u64,
+    );
     drop(out);
 }
 
@@ -384,7 +273,7 @@ fn a_failed_write_leaves_a_beginning_of_the_drawing(rt: HostRuntime) {
 
 // ---- labels by node
 
-fn sets_of(rt: &(impl Abort + AllocGlobal), system: &Lts, form: &Normal) -> Vec<Vec<bool>> {
+fn sets_of(rt: &impl Host, system: &Lts, form: &Normal) -> Vec<Vec<bool>> {
     label_sets(rt.alloc(), system, form).expect(rt, "memory")
 }
 

@@ -1,8 +1,10 @@
 // Canonical texts of systems, by readers and writers that fail or are slow. Transitions were put in order by hand: by
 // source, by the label's bytes and by target.
 
-use crate::common::{has_all, has_taken, holds, holds_for, narrow, same, system};
+use crate::common::{has_all, has_taken, holds_of, narrow, same, system};
 use lts::{Lts, WriteFault, put, put_number, write_aut};
+use samples::holds;
+use samples::host::Host;
 use samples::texts::RING;
 use samples::writers::{AMPLE, AtEnd, Narrow};
 use std::process::Abort;
@@ -34,14 +36,14 @@ static TEXTS: [(&str, &str); 7] = [
 ];
 
 // A writer that never fails is given the whole text, and no fault is told.
-fn is_written(rt: &(impl Abort + AllocGlobal), lts: &Lts, step: usize, wanted: &str) {
+fn is_written(rt: &impl Host, lts: &Lts, step: usize, wanted: &str) {
     let mut out = Narrow::new(rt.alloc(), step, AMPLE);
     holds!(rt; write_aut(lts, &mut out).is_ok());
     holds!(rt; has_all(&out, wanted), wanted);
     drop(out);
 }
 
-fn writes(rt: &(impl Abort + AllocGlobal), text: &str, wanted: &str) {
+fn writes(rt: &impl Host, text: &str, wanted: &str) {
     let lts = system(rt, text);
     is_written(rt, &lts, 1, wanted);
     is_written(rt, &lts, 3, wanted);
@@ -81,15 +83,20 @@ fn the_greatest_states_keep_their_places(rt: HostRuntime) {
 }
 
 // A writer without room for the whole ring is given a beginning, and a fault is told.
-fn is_cut(rt: &(impl Abort + AllocGlobal), lts: &Lts, step: usize, room: usize, at_end: AtEnd) {
+fn is_cut(rt: &impl Host, lts: &Lts, step: usize, room: usize, at_end: AtEnd) {
     let mut out = narrow(rt, step, room, at_end);
     let is_told = write_aut(lts, &mut out).is_err();
-    holds_for(rt, is_told && has_taken(&out, room, RING), room);
+    holds_of(
+        rt,
+        is_told && has_taken(&out, room, RING),
+        "room",
+        room as u64,
+    );
     drop(out);
 }
 
 // However the writer goes on.
-fn is_cut_anyhow(rt: &(impl Abort + AllocGlobal), lts: &Lts, step: usize, room: usize) {
+fn is_cut_anyhow(rt: &impl Host, lts: &Lts, step: usize, room: usize) {
     is_cut(rt, lts, step, room, AtEnd::Fails);
     is_cut(rt, lts, step, room, AtEnd::TakesNothing);
 }

@@ -1,42 +1,31 @@
 // What the tests of several topics use.
 
+ghost use Rattle.std.specs.Prelude.{◌≡◌, true};
+
 use requests::error::MuError;
 use samples::answers::answer_text;
+use samples::holds;
+use samples::host::Host;
 use samples::writers::{AtEnd, Narrow};
 use std::alloc::Global;
 use std::process::Abort;
 
-/// Of a text what was found is what was wanted.
-pub(crate) fn same(rt: &impl Abort, text: &str, found: &str, wanted: &str) {
-    assert_eq!(rt; found, wanted, "{text}");
-}
-
-/// This holds of what the text names.
-pub(crate) fn holds(rt: &impl Abort, text: &str, is_so: bool) {
-    assert!(rt; is_so, "{text}");
-}
-
 /// The answer about a text is this, or the code of the refusal and its place.
-pub(crate) fn answers(
-    rt: &(impl Abort + AllocGlobal),
-    text: &str,
-    answer: &Result<bool, MuError>,
-    wanted: &str,
-) {
+pub(crate) fn answers(rt: &impl Host, text: &str, answer: &Result<bool, MuError>, wanted: &str) {
     let found = answer_text(rt.alloc(), answer).expect(rt, "memory");
     same(rt, text, found.as_str(), wanted);
 }
 
 /// A text was written, and nothing else.
 pub(crate) fn is_written(rt: &impl Abort, text: &str, out: &Narrow) {
-    holds(rt, text, out.taken.as_slice() == text.as_bytes());
+    holds!(rt; out.taken.as_slice() == text.as_bytes(), text);
 }
 
 /// More than the commands write here.
 const MOST_WRITTEN: usize = 1_000;
 
 /// A writer that has the memory for all that is written.
-pub(crate) fn ready(rt: &(impl Abort + AllocGlobal)) -> Narrow {
+pub(crate) fn ready(rt: &impl Host) -> Narrow {
     Narrow::ready(rt.alloc(), MOST_WRITTEN).expect(rt, "memory")
 }
 
@@ -59,12 +48,24 @@ pub(crate) fn is_cut(
     answer: &Result<bool, MuError>,
     taken: &[u8],
 ) {
-    holds(rt, text, is_unwritten(answer));
-    holds(rt, text, taken.len() == room);
-    holds(rt, text, text.as_bytes().starts_with(taken));
+    holds!(rt; is_unwritten(answer), text);
+    holds!(rt; taken.len() == room, text);
+    holds!(rt; text.as_bytes().starts_with(taken), text);
 }
 
 /// Whether a write failed.
 pub(crate) fn is_unwritten(answer: &Result<bool, MuError>) -> bool {
     matches!(answer, Err(MuError::Write(_)))
+}
+
+/// What is claimed is so, or else the test tells the text.
+pub(crate) fn require(rt: &impl Abort, is_so: bool, text: &str)
+    ensures { is_so ≡ true }
+{
+    assert!(rt; is_so, "{text}");
+}
+
+/// Of a text what was found is what was wanted.
+pub(crate) fn same(rt: &impl Abort, text: &str, found: &str, wanted: &str) {
+    assert_eq!(rt; found, wanted, "{text}");
 }

@@ -4,14 +4,10 @@
 #[cfg(test)]
 mod command_lines;
 #[cfg(test)]
-mod command_texts;
-#[cfg(test)]
 mod common;
 #[cfg(test)]
 mod help;
 #[cfg(test)]
-mod named_boards;
-#[cfg(test)]
-mod replays;
-#[cfg(test)]
 mod solved_games;
+#[cfg(test)]
+mod written_texts;

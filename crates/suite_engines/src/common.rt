@@ -5,10 +5,14 @@ ghost use Rattle.std.specs.Prelude.{◌≡◌, true};
 
 use calculus::priorities::Priorities;
 use engines::error::MuError;
-use engines::request::{BoardKind, Options};
-use lts::{Lts, read_aut};
-use samples::texts::{repeated_text, ring, unseeded};
+use engines::request::{BoardKind, Check, Options, ReportForm, Wanted};
+use engines::writers::Writers;
+use lts::Lts;
+use samples::answers::answer_text;
+use samples::host::Host;
+use samples::texts::{repeated_text, ring, system_read};
 use samples::writers::{AMPLE, Narrow};
+use std::alloc::Global;
 use std::process::Abort;
 
 /// How a check solves where nothing else is asked for.
@@ -19,37 +23,6 @@ pub(crate) const DEFAULTS: Options = Options {
     board: BoardKind::Auto,
 };
 
-/// Of a text what was found is what was wanted.
-pub(crate) fn same(rt: &impl Abort, text: &str, found: &str, wanted: &str) {
-    assert_eq!(rt; found, wanted, "{text}");
-}
-
-/// What is claimed is so, or else the test ends and tells the claim, or the text that is given with it. A call of this takes the prover a fifth of what
-/// `assert!` does, which writes its own text wherever it stands.
-macro_rules! holds {
-    ($rt:expr; $claim:expr) => {
-        crate::common::require($rt, $claim, stringify!($claim))
-    };
-    ($rt:expr; $claim:expr, $text:expr) => {
-        crate::common::require($rt, $claim, $text)
-    };
-}
-
-pub(crate) use holds;
-
-pub(crate) fn require(rt: &impl Abort, is_so: bool, text: &str)
-    ensures { is_so ≡ true }
-{
-    assert!(rt; is_so, "{text}");
-}
-
-/// What is claimed of a number is so, or else the test ends and tells the text and the number.
-pub(crate) fn holds_of(rt: &impl Abort, is_so: bool, text: &str, number: u64)
-    ensures { is_so ≡ true }
-{
-    assert!(rt; is_so, "{text} {number}");
-}
-
 /// The answer is this.
 pub(crate) fn says(rt: &impl Abort, text: &str, answer: &Result<bool, MuError>, wanted: bool) {
     let is_so = match answer {
@@ -59,13 +32,10 @@ pub(crate) fn says(rt: &impl Abort, text: &str, answer: &Result<bool, MuError>, 
     require(rt, is_so, text);
 }
 
-/// A write failed.
-pub(crate) fn is_write_fault(rt: &impl Abort, answer: &Result<bool, MuError>) {
-    require(
-        rt,
-        matches!(answer, Err(MuError::Write(_))),
-        "a write fault",
-    );
+/// The answer is a refusal with this code and place.
+pub(crate) fn refuses_as(rt: &impl Host, answer: &Result<bool, MuError>, refusal: &str) {
+    let text = answer_text(rt.alloc(), answer).expect(rt, "memory");
+    assert_eq!(rt; text.as_str(), refusal);
 }
 
 /// These bytes are the text.
@@ -79,28 +49,82 @@ pub(crate) fn is_beginning(rt: &impl Abort, found: &[u8], wanted: &str, count: u
     require(rt, wanted.as_bytes().starts_with(found), wanted);
 }
 
-/// A writer that has room for every text here, and takes so many bytes at a time.
-pub(crate) fn ample(rt: &impl AllocGlobal, step: usize) -> Narrow {
-    Narrow::new(rt.alloc(), step, AMPLE)
+/// The options of one worker or of two over this board.
+pub(crate) fn team(are_two: bool, board: BoardKind) -> Options {
+    Options {
+        priorities: Priorities::Nested,
+        workers: if are_two { 2 } else { 1 },
+        shards: 16,
+        board,
+    }
 }
 
-/// The system of the text.
-pub(crate) fn system_of(rt: &(impl Abort + AllocGlobal), text: &str) -> Lts {
-    read_aut(rt.alloc(), unseeded(), text.as_bytes()).expect(rt, "a system")
+/// A writer for each text of a check.
+pub(crate) type Narrows = Writers<Narrow, Narrow, Narrow, Narrow, Narrow>;
+
+/// Writers to which nothing was written yet, with room for every text here.
+pub(crate) fn unwritten(alloc: Global) -> Narrows {
+    Writers {
+        game: Narrow::new(alloc, 9, AMPLE),
+        even: Narrow::new(alloc, 9, AMPLE),
+        odd: Narrow::new(alloc, 9, AMPLE),
+        witness: Narrow::new(alloc, 9, AMPLE),
+        report: Narrow::new(alloc, 9, AMPLE),
+    }
+}
+
+/// No game, evidence or witness was written, but a report.
+pub(crate) fn have_the_report_alone(writers: &Narrows) -> bool {
+    let made = [&writers.game, &writers.even, &writers.odd, &writers.witness];
+    made.iter().all(|writer| writer.taken.is_empty()) && !writers.report.taken.is_empty()
+}
+
+/// A whole report, beside it what is wanted, and no witness.
+pub(crate) fn wanted(game: bool, evidence: bool) -> Wanted {
+    Wanted {
+        game,
+        evidence,
+        witness: None,
+        report: ReportForm::Whole,
+    }
+}
+
+/// A check by sets of states or by a game.
+pub(crate) fn request(options: Options, plain: bool) -> Check<'static> {
+    Check {
+        system: "s",
+        formula: "f",
+        options,
+        plain,
+        strict: false,
+    }
+}
+
+/// What is claimed is so, or else the test tells the text.
+pub(crate) fn require(rt: &impl Abort, is_so: bool, text: &str)
+    ensures { is_so ≡ true }
+{
+    assert!(rt; is_so, "{text}");
+}
+
+/// What is claimed of a number is so, or else the test tells the text and the number.
+pub(crate) fn holds_of(rt: &impl Abort, is_so: bool, text: &str, number: u64)
+    ensures { is_so ≡ true }
+{
+    assert!(rt; is_so, "{text} {number}");
+}
+
+/// The system of a text.
+pub(crate) fn system(rt: &impl Host, text: &str) -> Lts {
+    system_read(rt.alloc(), text).expect(rt, "a system")
+}
+
+/// A beginning, a part that stands so often, and an end.
+pub(crate) fn repeated(rt: &impl Host, head: &str, part: &str, times: usize, tail: &str) -> String {
+    repeated_text(rt.alloc(), head, part, times, tail).expect(rt, "memory")
 }
 
 /// The text of a ring of so many states.
-pub(crate) fn ring_of(rt: &(impl Abort + AllocGlobal), states: usize) -> String {
+pub(crate) fn ring_of(rt: &impl Host, states: usize) -> String {
     ring(rt.alloc(), states).expect(rt, "memory")
-}
-
-/// The head, then the part this often, then the tail.
-pub(crate) fn repeats(
-    rt: &(impl Abort + AllocGlobal),
-    head: &str,
-    part: &str,
-    times: usize,
-    tail: &str,
-) -> String {
-    repeated_text(rt.alloc(), head, part, times, tail).expect(rt, "memory")
 }

@@ -4,30 +4,12 @@
 #[cfg(test)]
 mod common;
 #[cfg(test)]
-mod engine_reports;
+mod failed_reads;
 #[cfg(test)]
-mod faults;
-#[cfg(test)]
-mod gated_checks;
+mod library_checks;
 #[cfg(test)]
 mod named_boards;
 #[cfg(test)]
-mod report_forms;
-#[cfg(test)]
-mod shown_checks;
-#[cfg(test)]
 mod stages;
 #[cfg(test)]
-mod statuses;
-#[cfg(test)]
-mod strict_checks;
-#[cfg(test)]
-mod table_answers;
-#[cfg(test)]
-mod told_reasons;
-#[cfg(test)]
-mod unwritten;
-#[cfg(test)]
-mod worked_rows;
-#[cfg(test)]
-mod written_checks;
+mod written_texts;

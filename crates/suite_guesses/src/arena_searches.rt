@@ -3,7 +3,7 @@
 
 ghost use Rattle.std.specs.Prelude.{◌<◌};
 
-use crate::common::{counted, holds};
+use crate::common::holds_of;
 use crate::questions::{Question, roll_nested_question, roll_question};
 use arena_search::measures::least_measures;
 use arena_search::ranking::{GuessedRanking, ranking};
@@ -13,8 +13,9 @@ use rankings::least::least_moves;
 use rankings::sheet::Sheet;
 use rankings::winners::root_winners;
 use samples::dice::Dice;
+use samples::holds;
+use samples::host::Host;
 use std::process::Abort;
-use std::thread::Threads;
 use verdicts::proposing::proposals_of;
 
 // How many systems and formulas each of two tests has, how many whose binders alternate three times or four, and how many with five binders or six.
@@ -33,11 +34,7 @@ fn sheet_of(rt: &impl Abort, found: GuessedRanking) -> Sheet {
 }
 
 // The ranking of a question is good, and its marks are those of the formula's meaning.
-fn is_good(
-    rt: &(impl Abort + Threads + AllocGlobal + Sync),
-    question: &Question,
-    sheet: &Sheet,
-) -> bool {
+fn is_good(rt: &impl Host, question: &Question, sheet: &Sheet) -> bool {
     let marks = plain_states(rt.alloc(), &question.lts, &question.formula).expect(rt, "memory");
     match root_winners(rt, rt.alloc(), &question.lts, &question.form, sheet, 1) {
         Some(found) => found.as_slice() == marks.as_slice(),
@@ -46,7 +43,7 @@ fn is_good(
 }
 
 // Whether a ranking of a question is found. If so, it is good.
-fn is_ranked(rt: &(impl Abort + Threads + AllocGlobal + Sync), question: &Question) -> bool {
+fn is_ranked(rt: &impl Host, question: &Question) -> bool {
     match ranking(rt.alloc(), &question.lts, &question.form) {
         Some(found) => {
             let sheet = sheet_of(rt, found);
@@ -59,7 +56,7 @@ fn is_ranked(rt: &(impl Abort + Threads + AllocGlobal + Sync), question: &Questi
 }
 
 // Whether measures of a question are found. If so, they are the least ones of both players.
-fn is_measured(rt: &(impl Abort + AllocGlobal), question: &Question) -> bool {
+fn is_measured(rt: &impl Host, question: &Question) -> bool {
     match least_measures(rt.alloc(), &question.lts, &question.form) {
         Some(guess) => {
             let proposals = proposals_of(guess);
@@ -80,7 +77,7 @@ struct GuessCounts {
 
 impl GuessCounts {
     // One more question, which is let go.
-    fn ask(&mut self, rt: &(impl Abort + Threads + AllocGlobal + Sync), question: Question) {
+    fn ask(&mut self, rt: &impl Host, question: Question) {
         if is_ranked(rt, &question) {
             self.ranked = self.ranked.saturating_add(1);
         }
@@ -91,8 +88,18 @@ impl GuessCounts {
     }
 
     fn has_all(self, rt: &impl Abort, questions: u32) {
-        counted(rt, self.ranked, questions);
-        counted(rt, self.measured, questions);
+        holds_of(
+            rt,
+            self.ranked >= questions,
+            "found",
+            u64::from(self.ranked),
+        );
+        holds_of(
+            rt,
+            self.measured >= questions,
+            "found",
+            u64::from(self.measured),
+        );
     }
 }
 
@@ -101,7 +108,7 @@ const NONE_YET: GuessCounts = GuessCounts {
     measured: 0,
 };
 
-fn ask_any(rt: &(impl Abort + Threads + AllocGlobal + Sync), seed: u32) {
+fn ask_any(rt: &impl Host, seed: u32) {
     let mut dice = Dice::new(seed);
     let mut tally = NONE_YET;
     for _ in 0..QUESTIONS {
@@ -122,12 +129,7 @@ fn rankings_and_measures_of_more_arenas_are_good(rt: HostRuntime) {
     ask_any(&rt, 32);
 }
 
-fn ask_nested(
-    rt: &(impl Abort + Threads + AllocGlobal + Sync),
-    seed: u32,
-    questions: u32,
-    least: u32,
-)
+fn ask_nested(rt: &impl Host, seed: u32, questions: u32, least: u32)
     requires { least < 6 }
 {
     let mut dice = Dice::new(seed);
@@ -147,7 +149,7 @@ fn rankings_and_measures_of_nested_formulas_are_good(rt: HostRuntime) {
 }
 
 // What is proposed for a question, if its measures are found.
-fn proposed(rt: &(impl Abort + AllocGlobal), question: &Question) -> Option<Proposals> {
+fn proposed(rt: &impl Host, question: &Question) -> Option<Proposals> {
     let guess = least_measures(rt.alloc(), &question.lts, &question.form)?;
     Some(proposals_of(guess))
 }
@@ -190,12 +192,7 @@ fn make_wrong(proposals: &mut Proposals, v: usize, how: WrongMeasure) {
 }
 
 // Proposals of a question are refused once the number of a vertex was made wrong.
-fn is_refused(
-    rt: &(impl Abort + AllocGlobal),
-    question: &Question,
-    dice: &mut Dice,
-    how: WrongMeasure,
-) {
+fn is_refused(rt: &impl Host, question: &Question, dice: &mut Dice, how: WrongMeasure) {
     if let Some(mut proposals) = proposed(rt, question) {
         let vertices = u32::try_from(proposals.numbers.len()).unwrap_or(3);
         let v = 2 + dice.roll(vertices.saturating_sub(2).max(1));
@@ -220,7 +217,7 @@ fn wrong_measures_are_refused(rt: HostRuntime) {
 }
 
 // Whether the proposals of a question are refused without their heights.
-fn needs_heights(rt: &(impl Abort + AllocGlobal), question: &Question) -> bool {
+fn needs_heights(rt: &impl Host, question: &Question) -> bool {
     match proposed(rt, question) {
         Some(mut proposals) => {
             proposals.heights.clear();

@@ -1,18 +1,17 @@
 // Who wins a game by evidence that is guessed: there is such, so the checker accepted it, and lifting says the same.
 
-ghost use Rattle.std.specs.Prelude.{◌≡◌, ◌<◌, ◌≤◌, length};
+ghost use Rattle.std.specs.Prelude.{◌<◌, ◌≤◌};
 
-use crate::common::{certified, holds, holds_for, is_marked, solved};
+use crate::common::{certified, holds_of, is_lifted};
 use crate::known_games::{finished, owner_of, push};
 use evidence::decide::certified_winners;
 use game::gauge::Gauge;
 use game::graph::{Game, GameBuilder};
 use game::player::Player;
-use measures::settle::even_wins;
-use measures::table::Settled;
 use samples::dice::Dice;
+use samples::holds;
+use samples::host::Host;
 use std::process::Abort;
-use std::thread::Threads;
 
 // How many games of each shape there are.
 const GAMES: u32 = 2_500;
@@ -52,41 +51,22 @@ static SHAPES: [RandomGameLimits; 4] = [
 ];
 
 // How many vertices Even wins.
-fn evens(rt: &(impl Abort + AllocGlobal), game: &Game) -> usize {
+fn evens(rt: &impl Host, game: &Game) -> usize {
     let marks = certified(rt, game);
     let count = marks.iter().filter(|mark| **mark).count();
     drop(marks);
     count
 }
 
-// Whether the table says of all vertices what the marks say.
-fn are_marks(game: &Game, settled: &Settled, marks: &[bool]) -> bool
-    requires { settled.now.game ≡ game.now }
-{
-    for v in 0..game.vertices() {
-        if is_marked(marks, v) != even_wins(settled, v) {
-            return false;
-        }
-    }
-    true
-}
-
-fn is_lifted(rt: &(impl Abort + AllocGlobal), game: &Game, marks: &[bool]) -> bool {
-    let settled = solved(rt, game);
-    let is_lifted = are_marks(game, &settled, marks);
-    drop(settled);
-    is_lifted
-}
-
-fn is_won(rt: &(impl Abort + AllocGlobal + Threads + Sync), game: &Game, number: u32) {
+fn is_won(rt: &impl Host, game: &Game, number: u32) {
     let marks = certified(rt, game);
     let is_won = game.vertices() > MOST_LIFTED || is_lifted(rt, game, marks.as_slice());
-    holds_for(rt, is_won, number);
+    holds_of(rt, is_won, "at", u64::from(number));
     drop(marks);
 }
 
 // Vertices among so many, ascending.
-fn rolled(rt: &(impl Abort + AllocGlobal), dice: &mut Dice, vertices: u32, steps: u32) -> Vec<u32>
+fn rolled(rt: &impl Host, dice: &mut Dice, vertices: u32, steps: u32) -> Vec<u32>
     requires { 0 < vertices }
 {
     let mut row = Vec::new(rt.alloc());
@@ -98,12 +78,7 @@ fn rolled(rt: &(impl Abort + AllocGlobal), dice: &mut Dice, vertices: u32, steps
     row
 }
 
-fn push_rolled(
-    rt: &(impl Abort + AllocGlobal),
-    builder: &mut GameBuilder,
-    dice: &mut Dice,
-    shape: RandomGameLimits,
-)
+fn push_rolled(rt: &impl Host, builder: &mut GameBuilder, dice: &mut Dice, shape: RandomGameLimits)
     requires some { (0 < shape.vertices) × (0 < shape.steps) }
     requires few { (0 < shape.priorities) × (shape.priorities ≤ 33) }
 {
@@ -120,7 +95,7 @@ fn push_rolled(
     drop(row);
 }
 
-fn rolled_game(rt: &(impl Abort + AllocGlobal), dice: &mut Dice, shape: RandomGameLimits) -> Game {
+fn rolled_game(rt: &impl Host, dice: &mut Dice, shape: RandomGameLimits) -> Game {
     holds!(rt; shape.vertices > 0 && shape.steps > 0);
     holds!(rt; shape.priorities > 0 && shape.priorities <= 33);
     let mut builder = GameBuilder::new(rt.alloc());
@@ -130,11 +105,7 @@ fn rolled_game(rt: &(impl Abort + AllocGlobal), dice: &mut Dice, shape: RandomGa
     finished(rt, builder)
 }
 
-fn are_won(
-    rt: &(impl Abort + AllocGlobal + Threads + Sync),
-    dice: &mut Dice,
-    shape: RandomGameLimits,
-) {
+fn are_won(rt: &impl Host, dice: &mut Dice, shape: RandomGameLimits) {
     holds!(rt; shape.vertices > 0);
     for number in 0..GAMES {
         let vertices = 1 + dice.roll(shape.vertices);

@@ -1,16 +1,15 @@
 // Families of games whose winners are known, and are argued beside each. Ladders and cliques are those that Friedmann and
 // Lange compared solvers by in 2009; in climbs lifting alone goes through each measure, as in Jurdzinski's bound of 2000.
 
-ghost use Rattle.std.specs.Prelude.{◌≡◌, ◌<◌, ◌≤◌, length};
+ghost use Rattle.std.specs.Prelude.{◌<◌, ◌≤◌, length};
 
-use crate::common::{certified, holds, holds_for, holds_for_both, is_marked, solved};
+use crate::common::{certified, holds_of, is_lifted, is_marked};
 use game::graph::{Game, GameBuilder};
 use game::player::Player;
-use measures::settle::even_wins;
-use measures::table::Settled;
 use samples::games::push_row;
+use samples::holds;
+use samples::host::Host;
 use std::process::Abort;
-use std::thread::Threads;
 
 // The vertices that Even wins.
 #[derive(Clone, Copy)]
@@ -33,18 +32,6 @@ impl EvenWins {
     }
 }
 
-// Whether Even wins just those.
-fn are_won(game: &Game, settled: &Settled, wins: EvenWins) -> bool
-    requires { settled.now.game ≡ game.now }
-{
-    for v in 0..game.vertices() {
-        if even_wins(settled, v) != wins.has(game, v) {
-            return false;
-        }
-    }
-    true
-}
-
 // Whether marks are of just those.
 fn are_marks(game: &Game, wins: EvenWins, marks: &[bool]) -> bool {
     for v in 0..game.vertices() {
@@ -55,32 +42,13 @@ fn are_marks(game: &Game, wins: EvenWins, marks: &[bool]) -> bool {
     marks.len() == game.vertices() as usize
 }
 
-// Whether evidence of just those is guessed, and the checker accepts it.
-fn is_certified(
-    rt: &(impl Abort + AllocGlobal + Threads + Sync),
-    game: &Game,
-    wins: EvenWins,
-) -> bool {
+// Whether evidence of just those is guessed, the checker accepts it, and lifting says the same, where it is asked.
+fn is_certified(rt: &impl Host, game: &Game, wins: EvenWins, lifts: bool) -> bool {
     let marks = certified(rt, game);
     let are_marks = are_marks(game, wins, marks.as_slice());
+    let is_so = are_marks && (!lifts || is_lifted(rt, game, marks.as_slice()));
     drop(marks);
-    are_marks
-}
-
-fn is_solved(rt: &(impl Abort + AllocGlobal), game: &Game, wins: EvenWins) -> bool {
-    let settled = solved(rt, game);
-    let are_won = are_won(game, &settled, wins);
-    drop(settled);
-    are_won
-}
-
-// Whether lifting and certified evidence both say so, where the game is so small that lifting ends soon.
-fn is_lifted(
-    rt: &(impl Abort + AllocGlobal + Threads + Sync),
-    game: &Game,
-    wins: EvenWins,
-) -> bool {
-    is_solved(rt, game, wins) && is_certified(rt, game, wins)
+    is_so
 }
 
 // Even has the even vertices, and Odd the odd ones.
@@ -121,7 +89,7 @@ fn push_rungs(rt: &impl Abort, builder: &mut GameBuilder, rungs: u32)
     }
 }
 
-fn ladder(rt: &(impl Abort + AllocGlobal), rungs: u32) -> Game
+fn ladder(rt: &impl Host, rungs: u32) -> Game
     requires some { 1 < rungs }
     requires few { rungs ≤ 1_000_000 }
 {
@@ -130,12 +98,17 @@ fn ladder(rt: &(impl Abort + AllocGlobal), rungs: u32) -> Game
     finished(rt, builder)
 }
 
-fn is_ladder_lifted(rt: &(impl Abort + AllocGlobal + Threads + Sync), rungs: u32)
+fn is_ladder_lifted(rt: &impl Host, rungs: u32)
     requires some { 1 < rungs }
     requires few { rungs ≤ 1_000_000 }
 {
     let game = ladder(rt, rungs);
-    holds_for(rt, is_lifted(rt, &game, EvenWins::Own), rungs);
+    holds_of(
+        rt,
+        is_certified(rt, &game, EvenWins::Own, true),
+        "at",
+        u64::from(rungs),
+    );
     drop(game);
 }
 
@@ -145,7 +118,7 @@ fn on_a_ladder_each_wins_the_own_vertices(rt: HostRuntime) {
         is_ladder_lifted(&rt, rungs);
     }
     let game = ladder(&rt, 50_000);
-    holds!(&rt; is_certified(&rt, &game, EvenWins::Own));
+    holds!(&rt; is_certified(&rt, &game, EvenWins::Own, false));
     drop(game);
 }
 
@@ -160,7 +133,7 @@ fn push_others(rt: &impl Abort, others: &mut Vec<u32>, vertices: u32, v: u32) {
 }
 
 // A vertex that has its number as priority, and leads to all others.
-fn push_member(rt: &(impl Abort + AllocGlobal), builder: &mut GameBuilder, vertices: u32, v: u32)
+fn push_member(rt: &impl Host, builder: &mut GameBuilder, vertices: u32, v: u32)
     requires { v < 256 }
 {
     let mut others = Vec::new(rt.alloc());
@@ -169,7 +142,7 @@ fn push_member(rt: &(impl Abort + AllocGlobal), builder: &mut GameBuilder, verti
     drop(others);
 }
 
-fn push_members(rt: &(impl Abort + AllocGlobal), builder: &mut GameBuilder, vertices: u32)
+fn push_members(rt: &impl Host, builder: &mut GameBuilder, vertices: u32)
     requires { vertices ≤ 33 }
 {
     for v in 0..vertices {
@@ -177,7 +150,7 @@ fn push_members(rt: &(impl Abort + AllocGlobal), builder: &mut GameBuilder, vert
     }
 }
 
-fn clique(rt: &(impl Abort + AllocGlobal), vertices: u32) -> Game
+fn clique(rt: &impl Host, vertices: u32) -> Game
     requires { vertices ≤ 33 }
 {
     let mut builder = GameBuilder::new(rt.alloc());
@@ -185,11 +158,16 @@ fn clique(rt: &(impl Abort + AllocGlobal), vertices: u32) -> Game
     finished(rt, builder)
 }
 
-fn is_clique_lifted(rt: &(impl Abort + AllocGlobal + Threads + Sync), vertices: u32, wins: EvenWins)
+fn is_clique_lifted(rt: &impl Host, vertices: u32, wins: EvenWins)
     requires { vertices ≤ 33 }
 {
     let game = clique(rt, vertices);
-    holds_for(rt, is_lifted(rt, &game, wins), vertices);
+    holds_of(
+        rt,
+        is_certified(rt, &game, wins, true),
+        "at",
+        u64::from(vertices),
+    );
     drop(game);
 }
 
@@ -253,55 +231,43 @@ fn push_climb(rt: &impl Abort, builder: &mut GameBuilder, rows: u8, width: u32, 
     push(rt, builder, Player::Odd, 1, &[round]);
 }
 
-fn climb(rt: &(impl Abort + AllocGlobal), rows: u8, width: u32, winner: Player) -> Game {
+fn climb(rt: &impl Host, rows: u8, width: u32, winner: Player) -> Game {
     holds!(rt; rows < 16);
     let mut builder = GameBuilder::new(rt.alloc());
     push_climb(rt, &mut builder, rows, width, winner);
     finished(rt, builder)
 }
 
-// Rows, and how many vertices each has.
-static SMALL: [(u8, u32); 4] = [(1, 50), (2, 12), (3, 6), (4, 3)];
-
-fn is_climb_lifted(
-    rt: &(impl Abort + AllocGlobal + Threads + Sync),
-    rows: u8,
-    width: u32,
-    winner: Player,
-    wins: EvenWins,
-) {
+// The winner wins all vertices of a climb.
+fn is_climb_won(rt: &impl Host, rows: u8, width: u32, winner: Player, lifts: bool) {
+    let wins = match winner {
+        Player::Even => EvenWins::All,
+        Player::Odd => EvenWins::None,
+    };
     let game = climb(rt, rows, width, winner);
-    holds_for_both(rt, is_lifted(rt, &game, wins), u32::from(rows), width);
+    let is_won = is_certified(rt, &game, wins, lifts);
+    holds_of(rt, is_won, "width", u64::from(width));
     drop(game);
 }
+
+// Rows, and how many vertices each has.
+static SMALL: [(u8, u32); 4] = [(1, 50), (2, 12), (3, 6), (4, 3)];
 
 #[test]
 fn who_wins_at_the_end_of_a_way_wins_the_climb(rt: HostRuntime) {
     for (rows, width) in &SMALL {
-        is_climb_lifted(&rt, *rows, *width, Player::Even, EvenWins::All);
-        is_climb_lifted(&rt, *rows, *width, Player::Odd, EvenWins::None);
+        is_climb_won(&rt, *rows, *width, Player::Even, true);
+        is_climb_won(&rt, *rows, *width, Player::Odd, true);
     }
 }
 
 // Climbs on which lifting would take years.
 static LARGE: [(u8, u32); 3] = [(4, 100), (4, 20_000), (15, 1_000)];
 
-fn is_climb_certified(
-    rt: &(impl Abort + AllocGlobal + Threads + Sync),
-    rows: u8,
-    width: u32,
-    winner: Player,
-    wins: EvenWins,
-) {
-    let game = climb(rt, rows, width, winner);
-    holds_for_both(rt, is_certified(rt, &game, wins), u32::from(rows), width);
-    drop(game);
-}
-
 #[test]
 fn large_climbs_are_won_by_good_evidence(rt: HostRuntime) {
     for (rows, width) in &LARGE {
-        is_climb_certified(&rt, *rows, *width, Player::Even, EvenWins::All);
-        is_climb_certified(&rt, *rows, *width, Player::Odd, EvenWins::None);
+        is_climb_won(&rt, *rows, *width, Player::Even, false);
+        is_climb_won(&rt, *rows, *width, Player::Odd, false);
     }
 }

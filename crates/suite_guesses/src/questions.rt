@@ -9,8 +9,8 @@ use calculus::form::Normal;
 use game::graph::Game;
 use lts::Lts;
 use samples::dice::Dice;
+use samples::host::Host;
 use std::process::Abort;
-use std::thread::Threads;
 
 // The labels of the systems: formulas name the first two.
 static LABELS: [&str; 3] = ["a", "b", "c"];
@@ -68,7 +68,7 @@ fn roll_rows(rt: &impl Abort, dice: &mut Dice, rows: &mut String, states: u32) -
 }
 
 // A system with so many states: some have no steps, some several to the same state, some one to themselves.
-fn roll_system(rt: &(impl Abort + AllocGlobal), dice: &mut Dice, states: u32) -> String
+fn roll_system(rt: &impl Host, dice: &mut Dice, states: u32) -> String
     requires { 0 < states }
 {
     let mut rows = String::new(rt.alloc());
@@ -167,7 +167,7 @@ fn push_ends(rt: &impl Abort, text: &mut String, parentheses: u32) {
 }
 
 // A closed formula.
-fn roll_formula(rt: &(impl Abort + AllocGlobal), dice: &mut Dice) -> String {
+fn roll_formula(rt: &impl Host, dice: &mut Dice) -> String {
     let mut text = String::new(rt.alloc());
     let heads = 4 + dice.roll(8);
     let open = roll_heads(rt, dice, &mut text, heads);
@@ -185,11 +185,7 @@ pub(crate) struct Question {
     pub(crate) game: Game,
 }
 
-pub(crate) fn roll_question(
-    rt: &(impl Abort + AllocGlobal + Threads + Sync),
-    dice: &mut Dice,
-    states: u32,
-) -> Question
+pub(crate) fn roll_question(rt: &impl Host, dice: &mut Dice, states: u32) -> Question
     requires { 0 < states }
 {
     let system = roll_system(rt, dice, states);
@@ -201,11 +197,7 @@ pub(crate) fn roll_question(
 }
 
 // The question of these texts.
-fn question_of(
-    rt: &(impl Abort + AllocGlobal + Threads + Sync),
-    system: &str,
-    text: &str,
-) -> Question {
+fn question_of(rt: &impl Host, system: &str, text: &str) -> Question {
     let lts = common::system(rt, system);
     let formula = common::formula(rt, text);
     let form = common::normal_form(rt, &formula);
@@ -271,7 +263,7 @@ fn roll_operands(rt: &impl Abort, dice: &mut Dice, text: &mut String, binders: u
 }
 
 // So many binders that alternate, or one more, around the variables of all of them and some operands.
-fn roll_nested(rt: &(impl Abort + AllocGlobal), dice: &mut Dice, least: u32) -> String
+fn roll_nested(rt: &impl Host, dice: &mut Dice, least: u32) -> String
     requires { least < 6 }
 {
     let binders = least + dice.roll(2);
@@ -285,7 +277,7 @@ fn roll_nested(rt: &(impl Abort + AllocGlobal), dice: &mut Dice, least: u32) -> 
 }
 
 pub(crate) fn roll_nested_question(
-    rt: &(impl Abort + AllocGlobal + Threads + Sync),
+    rt: &impl Host,
     dice: &mut Dice,
     states: u32,
     least: u32,

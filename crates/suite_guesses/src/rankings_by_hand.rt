@@ -1,13 +1,14 @@
 // Rankings of arenas, made by hand: which are good, and what they tell.
 
-use crate::common::{formula, holds, normal_form, system};
+use crate::common::{formula, normal_form, system};
 use calculus::form::Normal;
 use game::column::{Column, Columns, Marked};
 use lts::Lts;
 use rankings::sheet::Sheet;
 use rankings::winners::root_winners;
+use samples::holds;
+use samples::host::Host;
 use std::process::Abort;
-use std::thread::Threads;
 
 // From state 0 to state 1 by `a`; from there nothing goes on. State 2 leads to itself by `b`.
 const SYSTEM: &str = "des (0,2,3)\n(0,\"a\",1)\n(2,\"b\",2)\n";
@@ -27,17 +28,17 @@ type Case = (
     WinningStates,
 );
 
-fn list_of(rt: &(impl Abort + AllocGlobal), numbers: &[u32]) -> Vec<u32> {
+fn list_of(rt: &impl Host, numbers: &[u32]) -> Vec<u32> {
     Vec::from_slice(rt.alloc(), numbers).expect(rt, "memory")
 }
 
-fn push_words(rt: &(impl Abort + AllocGlobal), words: &mut Vec<Vec<u64>>, row: &[u64]) {
+fn push_words(rt: &impl Host, words: &mut Vec<Vec<u64>>, row: &[u64]) {
     let row = Vec::from_slice(rt.alloc(), row).expect(rt, "memory");
     words.push(row).expect(rt, "memory");
 }
 
 // The words of each node's column.
-fn push_rows(rt: &(impl Abort + AllocGlobal), words: &mut Vec<Vec<u64>>, rows: WrittenColumns) {
+fn push_rows(rt: &impl Host, words: &mut Vec<Vec<u64>>, rows: WrittenColumns) {
     for row in rows {
         push_words(rt, words, row.as_slice());
     }
@@ -63,7 +64,7 @@ fn push_listed(rt: &impl Abort, nodes: &mut Vec<Column>, count: usize) {
     }
 }
 
-fn columns_of(rt: &(impl Abort + AllocGlobal), rows: WrittenColumns) -> Columns {
+fn columns_of(rt: &impl Host, rows: WrittenColumns) -> Columns {
     let mut nodes = Vec::new(rt.alloc());
     let mut words = Vec::new(rt.alloc());
     push_listed(rt, &mut nodes, rows.len());
@@ -76,12 +77,7 @@ fn columns_of(rt: &(impl Abort + AllocGlobal), rows: WrittenColumns) -> Columns 
     }
 }
 
-fn winners(
-    rt: &(impl Threads + AllocGlobal + Sync),
-    lts: &Lts,
-    form: &Normal,
-    sheet: &Sheet,
-) -> Option<Vec<bool>> {
+fn winners(rt: &impl Host, lts: &Lts, form: &Normal, sheet: &Sheet) -> Option<Vec<bool>> {
     root_winners(rt, rt.alloc(), lts, form, sheet, 1)
 }
 
@@ -95,12 +91,7 @@ fn is_found(marks: &Option<Vec<bool>>, found: &WinningStates) -> bool {
 }
 
 // Whether a sheet tells this of the game of a formula.
-fn tells(
-    rt: &(impl Abort + Threads + AllocGlobal + Sync),
-    text: &str,
-    sheet: &Sheet,
-    found: &WinningStates,
-) -> bool {
+fn tells(rt: &impl Host, text: &str, sheet: &Sheet, found: &WinningStates) -> bool {
     let lts = system(rt, SYSTEM);
     let formula = formula(rt, text);
     let form = normal_form(rt, &formula);
@@ -114,12 +105,7 @@ fn tells(
 }
 
 // What a sheet tells of the game of a formula is this. No sheet tells nothing.
-fn is_told(
-    rt: &(impl Abort + Threads + AllocGlobal + Sync),
-    text: &str,
-    sheet: &Option<Sheet>,
-    found: &WinningStates,
-) {
+fn is_told(rt: &impl Host, text: &str, sheet: &Option<Sheet>, found: &WinningStates) {
     let is_so = match sheet {
         Some(sheet) => tells(rt, text, sheet, found),
         None => found.is_none(),
@@ -127,7 +113,7 @@ fn is_told(
     holds!(rt; is_so, text);
 }
 
-fn is_ranked(rt: &(impl Abort + Threads + AllocGlobal + Sync), case: &Case) {
+fn is_ranked(rt: &impl Host, case: &Case) {
     let (text, rows, evens, odds, found) = case;
     let columns = columns_of(rt, rows);
     let sheet = Sheet::of(columns, list_of(rt, evens), list_of(rt, odds));
@@ -247,13 +233,13 @@ fn push_marks(rt: &impl Abort, marks: &mut Vec<u64>, rows: &[NodeNumbers]) {
 }
 
 // A list that counts one at the first state, none at the others.
-fn push_counts(rt: &(impl Abort + AllocGlobal), counts: &mut Vec<Vec<u32>>) {
+fn push_counts(rt: &impl Host, counts: &mut Vec<Vec<u32>>) {
     let list = list_of(rt, &[1, 0, 0]);
     counts.push(list).expect(rt, "memory");
 }
 
 // Columns that count by one list.
-fn counted_columns(rt: &(impl Abort + AllocGlobal), rows: &[NodeNumbers]) -> Columns {
+fn counted_columns(rt: &impl Host, rows: &[NodeNumbers]) -> Columns {
     let mut nodes = Vec::new(rt.alloc());
     let mut marks = Vec::new(rt.alloc());
     let mut counts = Vec::new(rt.alloc());
@@ -269,11 +255,7 @@ fn counted_columns(rt: &(impl Abort + AllocGlobal), rows: &[NodeNumbers]) -> Col
 }
 
 // Where no way is endless a box is won by how far the end is, and the binder above it by one more; at the last state by nobody's end.
-fn is_counted(
-    rt: &(impl Abort + Threads + AllocGlobal + Sync),
-    rows: &[NodeNumbers],
-    found: &WinningStates,
-) {
+fn is_counted(rt: &impl Host, rows: &[NodeNumbers], found: &WinningStates) {
     let columns = counted_columns(rt, rows);
     let sheet = Sheet::of(columns, list_of(rt, &[0, 1]), list_of(rt, &[1, 4]));
     is_told(rt, "mu X. [true]X", &sheet, found);

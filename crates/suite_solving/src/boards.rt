@@ -3,17 +3,19 @@
 ghost use Rattle.std.specs.Prelude.{◌≡◌, ◌<◌, length};
 ghost use Rattle.std.specs.Arc.{arc_value};
 
-use crate::common::{board_of_shards, finished, holds, settled, shared_game};
+use crate::common::{board_of_shards, finished, settled, shared_game};
 use game::graph::Game;
 use game::name::GameName;
 use game::player::Player;
 use measures::measure::Measure;
 use measures::table::PlainTable;
 use samples::games::GameRow;
+use samples::holds;
+use samples::host::Host;
 use std::alloc::Global;
 use std::marker::Brand;
 use std::process::Abort;
-use std::sync::{Arc, Wait};
+use std::sync::Arc;
 use tables::board::Board;
 use tables::shard::Shard;
 
@@ -45,7 +47,7 @@ fn rises_once<B: Board>(rt: &impl Abort, board: &B, source: &PlainTable)
 }
 
 /// A seat reads a vertex, raises it to what it has in the settled table, and raises it once more.
-pub(crate) fn rises_to_the_settled<B: Board, R: Abort + AllocGlobal>(rt: &R, board: &B, game: &Game)
+pub(crate) fn rises_to_the_settled<B: Board>(rt: &impl Host, board: &B, game: &Game)
     requires same { game.now ≡ B.game board.now }
     requires vertex { 4 < length game.now.vertices }
 {
@@ -54,7 +56,7 @@ pub(crate) fn rises_to_the_settled<B: Board, R: Abort + AllocGlobal>(rt: &R, boa
 }
 
 /// The vertex has risen in what the board is finished into.
-pub(crate) fn is_finished<B: Board, R: Abort + AllocGlobal>(rt: &R, board: B, game: &Game)
+pub(crate) fn is_finished<B: Board>(rt: &impl Host, board: B, game: &Game)
     requires same { game.now ≡ B.game board }
     requires vertex { 4 < length game.now.vertices }
 {
@@ -68,11 +70,7 @@ fn is_low(rt: &impl Abort, m: &Measure) {
 }
 
 // A seat over so many shards raises a vertex to what it has in the settled table; then what the board is finished into.
-fn rises_on<K: GameName, R: Abort + AllocGlobal + Wait + Clone + Copy + Drop>(
-    rt: &R,
-    game: &Arc<Game, Global>,
-    shards: u32,
-)
+fn rises_on<K: GameName, R: Host>(rt: &R, game: &Arc<Game, Global>, shards: u32)
     requires named { arc_value game.now ≡ K.game }
     requires vertex { 4 < length (arc_value game.now).vertices }
     requires shards { 0 < shards }
@@ -96,7 +94,7 @@ fn keeps_the_greater<K: GameName>(rt: &impl Abort, shard: &mut Shard<K>, source:
     holds!(rt; shard.read(4).is_top());
 }
 
-fn is_kept<K: GameName>(rt: &(impl Abort + AllocGlobal), game: &Game)
+fn is_kept<K: GameName>(rt: &impl Host, game: &Game)
     requires named { game.now ≡ K.game }
     requires vertex { 4 < length game.now.vertices }
 {
@@ -106,7 +104,7 @@ fn is_kept<K: GameName>(rt: &(impl Abort + AllocGlobal), game: &Game)
 }
 
 /// The game has the vertices that are asked for.
-pub(crate) fn diamond(rt: &(impl Abort + AllocGlobal)) -> Arc<Game, Global>
+pub(crate) fn diamond(rt: &impl Host) -> Arc<Game, Global>
     ensures { 4 < length (arc_value result).vertices }
 {
     let game = shared_game(rt, &DIAMOND);

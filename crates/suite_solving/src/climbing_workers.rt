@@ -4,20 +4,20 @@
 ghost use Rattle.std.specs.Prelude.{◌≡◌, ◌*◌, ◌<◌, ◌≤◌};
 ghost use Rattle.std.specs.Arc.{arc_value};
 
-use crate::common::{board_of_shards, board_of_words, holds, holds_of, is_least, rolled_game};
+use crate::common::{board_of_shards, board_of_words, holds_of, is_least, rolled_game};
 use game::graph::{Game, GameBuilder};
 use game::name::GameName;
 use game::player::Player;
 use measures::table::Settled;
 use samples::dice::Dice;
 use samples::games::push_row;
+use samples::holds;
+use samples::host::Host;
 use std::alloc::{AllocError, Global};
 use std::array;
 use std::marker::Brand;
-use std::process::Abort;
+use std::sync::Arc;
 use std::sync::atomic::{AtomicU64, Ordering};
-use std::sync::{Arc, Wait};
-use std::thread::Threads;
 use workers::gate::{Gate, NoGate};
 use workers::solving::solve;
 
@@ -63,8 +63,8 @@ impl Gate for TurnsByWorker {
 }
 
 /// The table that workers over words come to.
-pub(crate) fn lifted_over_words<G: Gate + Sync, R: Abort + AllocGlobal + Threads + Wait + Sync>(
-    rt: &R,
+pub(crate) fn lifted_over_words<G: Gate + Sync>(
+    rt: &impl Host,
     game: &Arc<Game, Global>,
     workers: usize,
     gate: &G,
@@ -118,7 +118,7 @@ fn push_climbing(
 }
 
 // A climb of so many vertices.
-fn climb(rt: &(impl Abort + AllocGlobal), vertices: u32, apart: u32) -> Arc<Game, Global>
+fn climb(rt: &impl Host, vertices: u32, apart: u32) -> Arc<Game, Global>
     requires long { 2 * RING ≤ vertices }
     requires apart { 0 < apart }
 {
@@ -130,21 +130,17 @@ fn climb(rt: &(impl Abort + AllocGlobal), vertices: u32, apart: u32) -> Arc<Game
 }
 
 /// The game of what was pushed, to be shared.
-pub(crate) fn built(rt: &(impl Abort + AllocGlobal), builder: GameBuilder) -> Arc<Game, Global> {
+pub(crate) fn built(rt: &impl Host, builder: GameBuilder) -> Arc<Game, Global> {
     let game = builder.finish().expect(rt, "a game");
     shared_of(rt, game)
 }
 
-fn shared_of(rt: &(impl Abort + AllocGlobal), game: Game) -> Arc<Game, Global> {
+fn shared_of(rt: &impl Host, game: Game) -> Arc<Game, Global> {
     Arc::new(rt.alloc(), game).expect(rt, "memory")
 }
 
 // How many turns so many workers over words take.
-fn turns_of<R: Abort + AllocGlobal + Threads + Wait + Sync>(
-    rt: &R,
-    game: &Arc<Game, Global>,
-    workers: usize,
-) -> u64
+fn turns_of(rt: &impl Host, game: &Arc<Game, Global>, workers: usize) -> u64
     requires { 0 < workers }
 {
     let turns = TurnsByWorker::new();
@@ -153,12 +149,7 @@ fn turns_of<R: Abort + AllocGlobal + Threads + Wait + Sync>(
 }
 
 // So many workers take at most twice the turns of one.
-fn take_at_most_twice<R: Abort + AllocGlobal + Threads + Wait + Sync>(
-    rt: &R,
-    game: &Arc<Game, Global>,
-    workers: usize,
-    one: u64,
-)
+fn take_at_most_twice(rt: &impl Host, game: &Arc<Game, Global>, workers: usize, one: u64)
     requires { 0 < workers }
 {
     let all = turns_of(rt, game, workers);
@@ -198,7 +189,7 @@ fn push_branch(builder: &mut GameBuilder, vertices: u32, v: u32) -> Result<(), A
 }
 
 // The tree of 100,000 vertices.
-fn tree(rt: &(impl Abort + AllocGlobal)) -> Arc<Game, Global> {
+fn tree(rt: &impl Host) -> Arc<Game, Global> {
     let mut builder = GameBuilder::new(rt.alloc());
     for v in 0..100_000 {
         holds!(rt; push_branch(&mut builder, 100_000, v).is_ok());
@@ -207,11 +198,7 @@ fn tree(rt: &(impl Abort + AllocGlobal)) -> Arc<Game, Global> {
 }
 
 // So many workers share the turns at it.
-fn share<R: Abort + AllocGlobal + Threads + Wait + Sync>(
-    rt: &R,
-    game: &Arc<Game, Global>,
-    workers: usize,
-)
+fn share(rt: &impl Host, game: &Arc<Game, Global>, workers: usize)
     requires { 0 < workers }
 {
     let turns = TurnsByWorker::new();
@@ -236,10 +223,12 @@ fn what_rises_once_is_shared(rt: HostRuntime) {
 }
 
 // The table that workers over shards come to.
-fn lifted_over_shards<
-    K: GameName + Send + Sync,
-    R: Abort + AllocGlobal + Threads + Wait + Clone + Copy + Drop + Send + Sync,
->(rt: &R, game: &Arc<Game, Global>, shards: u32, workers: usize) -> Settled
+fn lifted_over_shards<K: GameName + Send + Sync, R: Host>(
+    rt: &R,
+    game: &Arc<Game, Global>,
+    shards: u32,
+    workers: usize,
+) -> Settled
     requires named { arc_value game.now ≡ K.game }
     requires shards { 0 < shards }
     requires workers { 0 < workers }
@@ -250,11 +239,7 @@ fn lifted_over_shards<
 }
 
 // The table that workers over a board come to; how many they are, which board it is and how many shards it has is thrown.
-fn lifted_somehow<R: Abort + AllocGlobal + Threads + Wait + Clone + Copy + Drop + Send + Sync>(
-    rt: &R,
-    dice: &mut Dice,
-    game: &Arc<Game, Global>,
-) -> Settled
+fn lifted_somehow<R: Host>(rt: &R, dice: &mut Dice, game: &Arc<Game, Global>) -> Settled
     ensures { result.game ≡ arc_value game.now }
 {
     let workers = dice.roll(16) as usize + 1;
@@ -267,15 +252,12 @@ fn lifted_somehow<R: Abort + AllocGlobal + Threads + Wait + Clone + Copy + Drop 
 }
 
 // A game that is thrown, to be shared.
-fn shared_rolled(rt: &(impl Abort + AllocGlobal), dice: &mut Dice) -> Arc<Game, Global> {
+fn shared_rolled(rt: &impl Host, dice: &mut Dice) -> Arc<Game, Global> {
     shared_of(rt, rolled_game(rt, dice, 24))
 }
 
 // Whether workers, thrown as they are, come to the table of one thread, on a game that is thrown too.
-fn is_same_table<R: Abort + AllocGlobal + Threads + Wait + Clone + Copy + Drop + Send + Sync>(
-    rt: &R,
-    dice: &mut Dice,
-) -> bool {
+fn is_same_table(rt: &impl Host, dice: &mut Dice) -> bool {
     let game = shared_rolled(rt, dice);
     let many = lifted_somehow(rt, dice, &game);
     is_least(rt, &game, &many)

@@ -11,51 +11,21 @@ use measures::settle::{settle, solve_one};
 use measures::table::{PlainTable, Settled, opening};
 use samples::dice::{Dice, roll_game};
 use samples::games::{GameRow, game_of_rows, shared_game_of};
+use samples::host::Host;
 use std::alloc::Global;
 use std::process::Abort;
-use std::sync::{Arc, Wait};
+use std::sync::Arc;
 use tables::board::Board;
 use tables::locked::LockedBoard;
 use tables::packed::PackedBoard;
 
-/// What is claimed is so, or else the test ends and tells the claim, or the text that is given with it. A call of this takes the prover a fifth of what
-/// `assert!` does, which writes its own text wherever it stands.
-macro_rules! holds {
-    ($rt:expr; $claim:expr) => {
-        crate::common::require($rt, $claim, stringify!($claim))
-    };
-    ($rt:expr; $claim:expr, $text:expr) => {
-        crate::common::require($rt, $claim, $text)
-    };
-}
-
-pub(crate) use holds;
-
-pub(crate) fn require(rt: &impl Abort, is_so: bool, text: &str)
-    ensures { is_so ≡ true }
-{
-    assert!(rt; is_so, "{text}");
-}
-
-/// What is claimed of a number is so, or else the test ends and tells the text and the number.
-pub(crate) fn holds_of(rt: &impl Abort, is_so: bool, text: &str, number: u64)
-    ensures { is_so ≡ true }
-{
-    assert!(rt; is_so, "{text} {number}");
-}
-
-/// The game of these vertices.
-pub(crate) fn game_from(rt: &(impl Abort + AllocGlobal), rows: &[GameRow]) -> Game {
-    game_of_rows(rt, rows).expect(rt, "a game")
-}
-
 /// The game of these vertices, to be shared.
-pub(crate) fn shared_game(rt: &(impl Abort + AllocGlobal), rows: &[GameRow]) -> Arc<Game, Global> {
+pub(crate) fn shared_game(rt: &impl Host, rows: &[GameRow]) -> Arc<Game, Global> {
     shared_game_of(rt, rows).expect(rt, "a game")
 }
 
 /// A game that is thrown: so many vertices, and priorities below 6.
-pub(crate) fn rolled_game(rt: &(impl Abort + AllocGlobal), dice: &mut Dice, vertices: u32) -> Game
+pub(crate) fn rolled_game(rt: &impl Host, dice: &mut Dice, vertices: u32) -> Game
     requires { 0 < vertices }
 {
     let rolled = roll_game(rt, dice, vertices, 6).expect(rt, "memory");
@@ -70,26 +40,19 @@ pub(crate) fn shared(rt: &impl Abort, game: &Arc<Game, Global>) -> Arc<Game, Glo
 }
 
 /// The table that lifting begins with.
-pub(crate) fn opened(rt: &(impl Abort + AllocGlobal), game: &Game) -> PlainTable
+pub(crate) fn opened(rt: &impl Host, game: &Game) -> PlainTable
     ensures { result.game ≡ game.now }
 {
     opening(rt.alloc(), game).expect(rt, "memory")
 }
 
 /// The table that lifting ends with.
-pub(crate) fn settled(rt: &(impl Abort + AllocGlobal), game: &Game) -> PlainTable
+pub(crate) fn settled(rt: &impl Host, game: &Game) -> PlainTable
     ensures { result.game ≡ game.now }
 {
     let mut table = opened(rt, game);
     settle(game, &mut table);
     table
-}
-
-/// The table that one thread comes to.
-pub(crate) fn least(rt: &(impl Abort + AllocGlobal), game: &Game) -> Settled
-    ensures { result.game ≡ game.now }
-{
-    solve_one(rt.alloc(), game).expect(rt, "memory")
 }
 
 /// Whether two tables of a game are the same.
@@ -106,19 +69,15 @@ pub(crate) fn agree(game: &Game, one: &Settled, other: &Settled) -> bool
 }
 
 /// Whether a table is the one that one thread comes to.
-pub(crate) fn is_least(rt: &(impl Abort + AllocGlobal), game: &Game, table: &Settled) -> bool
+pub(crate) fn is_least(rt: &impl Host, game: &Game, table: &Settled) -> bool
     requires { table.now.game ≡ game.now }
 {
-    let one = least(rt, game);
+    let one = solved(rt, game);
     agree(game, &one, table)
 }
 
 /// A board of one word for each vertex.
-pub(crate) fn board_of_words(
-    rt: &(impl Abort + AllocGlobal),
-    game: &Arc<Game, Global>,
-    seats: u32,
-) -> PackedBoard
+pub(crate) fn board_of_words(rt: &impl Host, game: &Arc<Game, Global>, seats: u32) -> PackedBoard
     requires { 0 < seats }
     ensures { board_game result ≡ arc_value game.now }
 {
@@ -126,7 +85,7 @@ pub(crate) fn board_of_words(
 }
 
 /// A board of so many shards under locks.
-pub(crate) fn board_of_shards<K: GameName, R: Abort + AllocGlobal + Wait + Clone + Copy + Drop>(
+pub(crate) fn board_of_shards<K: GameName, R: Host>(
     rt: &R,
     game: &Arc<Game, Global>,
     shards: u32,
@@ -138,15 +97,37 @@ pub(crate) fn board_of_shards<K: GameName, R: Abort + AllocGlobal + Wait + Clone
 }
 
 /// What a board is finished into.
-pub(crate) fn finished<B: Board, R: Abort + AllocGlobal>(
-    rt: &R,
-    board: B,
-    game: &Game,
-) -> PlainTable
+pub(crate) fn finished<B: Board>(rt: &impl Host, board: B, game: &Game) -> PlainTable
     requires { game.now ≡ B.game board }
     ensures { result.game ≡ game.now }
 {
     let mut table = opened(rt, game);
     board.finish(&mut table);
     table
+}
+
+/// What is claimed is so, or else the test tells the text.
+pub(crate) fn require(rt: &impl Abort, is_so: bool, text: &str)
+    ensures { is_so ≡ true }
+{
+    assert!(rt; is_so, "{text}");
+}
+
+/// What is claimed of a number is so, or else the test tells the text and the number.
+pub(crate) fn holds_of(rt: &impl Abort, is_so: bool, text: &str, number: u64)
+    ensures { is_so ≡ true }
+{
+    assert!(rt; is_so, "{text} {number}");
+}
+
+/// The game of these rows.
+pub(crate) fn game_by_hand(rt: &impl Host, rows: &[GameRow]) -> Game {
+    game_of_rows(rt, rows).expect(rt, "a game")
+}
+
+/// The least progress table of a game.
+pub(crate) fn solved(rt: &impl Host, game: &Game) -> Settled
+    ensures { result.game ≡ game.now }
+{
+    solve_one(rt.alloc(), game).expect(rt, "memory")
 }

@@ -1,21 +1,22 @@
 // A vertex to which very many others lead, and which rises again and again: what it gives workers to lift is bounded by how many vertices
-// there are.
+// there are. tests/hub tells what memory that takes.
 
 ghost use Rattle.std.specs.Prelude.{◌≡◌, ◌*◌, ◌+◌, ◌<◌};
 ghost use Rattle.suite_solving.specs.declared.hubs.TheConstants.{BETWEEN};
 
 use crate::climbing_workers::{TurnsByWorker, built, lifted_over_words};
-use crate::common::{holds, holds_of};
 use game::graph::{Game, GameBuilder};
 use game::player::Player;
 use samples::games::push_row;
+use samples::holds;
+use samples::host::Host;
 use std::alloc::{AllocError, Global};
 use std::fs;
 use std::process::Abort;
 use std::sync::Arc;
 use std::sync::atomic::{AtomicU64, Ordering};
 use std::thread::yield_now;
-use workers::gate::{Gate, NoGate};
+use workers::gate::Gate;
 
 /// How many of those that lead to the hub have priority 1.
 const COUNTED: u32 = 20;
@@ -64,7 +65,7 @@ impl Hub {
         }
     }
 
-    fn game(self, rt: &(impl Abort + AllocGlobal)) -> Arc<Game, Global>
+    fn game(self, rt: &impl Host) -> Arc<Game, Global>
         requires { self.leading * self.apart < 4000000 }
     {
         let mut builder = GameBuilder::new(rt.alloc());
@@ -127,39 +128,10 @@ fn what_is_pending_is_given_once_however_often_its_hub_rises(rt: HostRuntime) {
     );
 }
 
-// The first worker had a turn at each vertex that leads to the hub, at half of those behind them and at the trap, where the other one had a turn too, since it stands in the hub's block; and all had one at each of so many vertices, beside those of the hub.
+// The first worker had a turn at each vertex that leads to the hub, at half of those behind them and at the trap, where the other one had a turn too, since
+// it stands in the hub's block; and all had one at each of so many vertices, beside those of the hub.
 fn has_turns(rt: &impl Abort, gate: &Holding, leading: u64, others: u64) {
     holds!(rt; gate.of_hub.load(Ordering::SeqCst) == HUB_TURNS);
     holds!(rt; gate.turns.of(0) == leading.saturating_add(u64::from(BETWEEN) / 2 + 1));
     holds!(rt; gate.turns.all() == others.saturating_add(HUB_TURNS + 1));
-}
-
-// What the system tells of this process's memory under a name, in kilobytes.
-fn kilobytes(rt: HostRuntime, name: &str) -> Option<u64> {
-    match fs::read_to_string(&rt, "/proc/self/status") {
-        Ok(status) => number_behind(status.as_str(), name),
-        Err(_) => None,
-    }
-}
-
-// The number that stands behind a name.
-fn number_behind(status: &str, name: &str) -> Option<u64> {
-    let (_, rest) = status.split_once(name)?;
-    let (number, _) = rest.trim_start().split_once(" ")?;
-    number.parse::<u64>().ok()
-}
-
-// Each time that the hub rises a million vertices may rise with it. A list of them all, a word or more each, would come to gigabytes.
-#[test]
-fn a_hub_that_a_million_lead_to_is_lifted_in_little_room(rt: HostRuntime) {
-    let hub = Hub {
-        leading: 1_000_000,
-        apart: 1,
-    };
-    let game = hub.game(&rt);
-    let before = kilobytes(rt, "VmRSS:").expect(&rt, "a number");
-    lifted_over_words(&rt, &game, 4, &NoGate);
-    let most = kilobytes(rt, "VmHWM:").expect(&rt, "a number");
-    let taken = most.saturating_sub(before) / 1_000;
-    holds_of(&rt, taken <= 200, "MB taken:", taken);
 }

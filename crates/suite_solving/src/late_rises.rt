@@ -5,18 +5,19 @@ ghost use Rattle.std.specs.Prelude.{◌≡◌};
 ghost use Rattle.std.specs.Arc.{arc_value};
 ghost use Rattle.tables.specs.Seats.{board_game};
 
-use crate::common::{board_of_words, holds, shared_game};
+use crate::common::{board_of_words, shared_game};
 use game::graph::Game;
 use game::player::Player;
 use measures::measure::Measure;
 use measures::settle::is_settled;
 use measures::table::PlainTable;
 use samples::games::GameRow;
+use samples::holds;
+use samples::host::Host;
 use std::alloc::Global;
-use std::process::Abort;
+use std::sync::Arc;
 use std::sync::atomic::{AtomicBool, AtomicU64, Ordering};
-use std::sync::{Arc, Wait};
-use std::thread::{Threads, yield_now};
+use std::thread::yield_now;
 use tables::board::Board;
 use tables::error::TableError;
 use tables::packed::PackedBoard;
@@ -139,11 +140,7 @@ impl<'a, B: Board + Drop> Board for SlowBoard<'a, B> {
 }
 
 // What was read has risen, and the reader had two turns. Two workers lift over the board, of which one is held.
-fn is_read_once_more<R: Abort + AllocGlobal + Threads + Wait + Sync>(
-    rt: &R,
-    game: &Arc<Game, Global>,
-    inner: PackedBoard,
-)
+fn is_read_once_more(rt: &impl Host, game: &Arc<Game, Global>, inner: PackedBoard)
     requires { board_game inner ≡ arc_value game.now }
 {
     let order = &Order::new();

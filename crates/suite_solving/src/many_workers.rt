@@ -3,26 +3,24 @@
 ghost use Rattle.std.specs.Prelude.{◌≡◌, ◌<◌};
 ghost use Rattle.std.specs.Arc.{arc_value};
 
-use crate::common::{
-    board_of_shards, board_of_words, holds, holds_of, is_least, opened, shared_game,
-};
+use crate::common::{board_of_shards, board_of_words, is_least, opened, shared_game};
 use game::graph::Game;
 use game::name::GameName;
 use game::player::Player;
 use measures::measure::Measure;
 use measures::settle::is_settled;
-use measures::table::{PlainTable, Settled};
+use measures::table::PlainTable;
 use samples::games::GameRow;
+use samples::holds;
+use samples::host::Host;
 use samples::meeting::Meeting;
 use std::alloc::{AllocError, Global};
 use std::marker::Brand;
-use std::process::Abort;
+use std::sync::Arc;
 use std::sync::atomic::{AtomicBool, AtomicU32, AtomicU64, Ordering};
-use std::sync::{Arc, Wait};
-use std::thread::Threads;
 use tables::board::Board;
 use tables::error::TableError;
-use workers::gate::{Gate, NoGate};
+use workers::gate::Gate;
 use workers::solving::solve;
 
 // A ring on which Odd wins: its greatest priority is odd. Each vertex rises many times before it is top.
@@ -76,77 +74,6 @@ static TWO_RINGS: [GameRow; 23] = [
     (Player::Odd, 3, &[22]),
     (Player::Even, 4, &[22]),
 ];
-
-// The table that workers over shards under locks come to.
-fn lifted_by<R: Abort + AllocGlobal + Threads + Wait + Clone + Copy + Drop + Send + Sync>(
-    rt: &R,
-    game: &Arc<Game, Global>,
-    shards: u32,
-    workers: usize,
-) -> Settled
-    requires shards { 0 < shards }
-    requires workers { 0 < workers }
-    ensures { result.game ≡ arc_value game.now }
-{
-    lifted_named::<Brand, R>(rt, game, shards, workers)
-}
-
-fn lifted_named<
-    K: GameName + Send + Sync,
-    R: Abort + AllocGlobal + Threads + Wait + Clone + Copy + Drop + Send + Sync,
->(rt: &R, game: &Arc<Game, Global>, shards: u32, workers: usize) -> Settled
-    requires named { arc_value game.now ≡ K.game }
-    requires shards { 0 < shards }
-    requires workers { 0 < workers }
-    ensures { result.game ≡ arc_value game.now }
-{
-    let board = board_of_shards::<K, R>(rt, game, shards);
-    solve(rt, rt.alloc(), game, board, workers, &NoGate).expect(rt, "memory")
-}
-
-// The workers' table is that of one thread.
-fn same_table<R: Abort + AllocGlobal + Threads + Wait + Clone + Copy + Drop + Send + Sync>(
-    rt: &R,
-    rows: &[GameRow],
-    shards: u32,
-    workers: usize,
-) -> bool
-    requires shards { 0 < shards }
-    requires workers { 0 < workers }
-{
-    let game = shared_game(rt, rows);
-    let many = lifted_by(rt, &game, shards, workers);
-    is_least(rt, &game, &many)
-}
-
-// So many workers find it.
-fn find_the_least_table<
-    R: Abort + AllocGlobal + Threads + Wait + Clone + Copy + Drop + Send + Sync,
->(rt: &R, workers: usize)
-    requires { 0 < workers }
-{
-    let number = workers as u64;
-    holds_of(
-        rt,
-        same_table(rt, &ODD_RING, 1, workers),
-        "on a ring",
-        number,
-    );
-    holds_of(
-        rt,
-        same_table(rt, &ODD_RING, 16, workers),
-        "on a ring in shards",
-        number,
-    );
-    holds_of(rt, same_table(rt, &WAY, 16, workers), "on a way", number);
-}
-
-#[test]
-fn any_number_of_workers_finds_the_least_table(rt: HostRuntime) {
-    find_the_least_table(&rt, 1);
-    find_the_least_table(&rt, 2);
-    find_the_least_table(&rt, 8);
-}
 
 /// What is noted of a run: of each vertex how often it was read and how often it was somebody's turn, of two seats how often they read, how many seats
 /// there were and had had their last call when the board was finished, and whether what it was finished into was settled.
@@ -319,8 +246,8 @@ impl<'a, B: Board + Drop> Board for NotingBoard<'a, B> {
 }
 
 // Whether workers who lift over a board end well, and come to the table of one thread.
-fn ends_well_on<B: Board + Drop + Sync, R: Abort + AllocGlobal + Threads + Wait + Sync>(
-    rt: &R,
+fn ends_well_on<B: Board + Drop + Sync>(
+    rt: &impl Host,
     game: &Arc<Game, Global>,
     inner: B,
     workers: usize,
@@ -335,17 +262,18 @@ fn ends_well_on<B: Board + Drop + Sync, R: Abort + AllocGlobal + Threads + Wait 
 }
 
 // Nothing is noted yet of so many workers.
-fn new_notes(rt: &(impl Abort + AllocGlobal), game: &Game, workers: usize) -> Notes
+fn new_notes(rt: &impl Host, game: &Game, workers: usize) -> Notes
     requires { 0 < workers }
 {
     Notes::new(rt.alloc(), game.vertices(), workers).expect(rt, "memory")
 }
 
 // Whether they do over shards under locks.
-fn ends_well<
-    K: GameName + Send + Sync,
-    R: Abort + AllocGlobal + Threads + Wait + Clone + Copy + Drop + Send + Sync,
->(rt: &R, game: &Arc<Game, Global>, workers: usize) -> bool
+fn ends_well<K: GameName + Send + Sync, R: Host>(
+    rt: &R,
+    game: &Arc<Game, Global>,
+    workers: usize,
+) -> bool
     requires named { arc_value game.now ≡ K.game }
     requires workers { 0 < workers }
 {
@@ -353,126 +281,47 @@ fn ends_well<
     ends_well_on(rt, game, board, workers)
 }
 
-/// Whether workers over shards under locks leave nothing to lift.
-pub(crate) fn end_well_over_shards<
-    R: Abort + AllocGlobal + Threads + Wait + Clone + Copy + Drop + Send + Sync,
->(rt: &R, game: &Arc<Game, Global>, workers: usize) -> bool
-    requires { 0 < workers }
-{
-    ends_well::<Brand, R>(rt, game, workers)
+/// One worker, two and eight over shards under locks leave nothing to lift.
+pub(crate) fn all_end_well_over_shards<R: Host>(rt: &R, game: &Arc<Game, Global>) {
+    holds!(rt; ends_well::<Brand, R>(rt, game, 1), "one worker over shards");
+    holds!(rt; ends_well::<Brand, R>(rt, game, 2), "two workers over shards");
+    holds!(rt; ends_well::<Brand, R>(rt, game, 8), "eight workers over shards");
 }
 
-// Whether workers over shards under locks leave nothing to lift of the game of these vertices.
-fn all_end_well<R: Abort + AllocGlobal + Threads + Wait + Clone + Copy + Drop + Send + Sync>(
-    rt: &R,
-    rows: &[GameRow],
-    workers: usize,
-) -> bool
-    requires { 0 < workers }
-{
-    let game = shared_game(rt, rows);
-    end_well_over_shards(rt, &game, workers)
-}
-
-/// Whether workers over words leave nothing to lift.
-pub(crate) fn end_well_over_words<R: Abort + AllocGlobal + Threads + Wait + Sync>(
-    rt: &R,
-    game: &Arc<Game, Global>,
-    workers: usize,
-) -> bool
+// Whether workers over words leave nothing to lift.
+fn ends_well_over_words(rt: &impl Host, game: &Arc<Game, Global>, workers: usize) -> bool
     requires { 0 < workers }
 {
     let board = board_of_words(rt, game, 1);
     ends_well_on(rt, game, board, workers)
 }
 
-// Whether workers over words leave nothing to lift of the game of these vertices.
-fn all_end_well_over_words<R: Abort + AllocGlobal + Threads + Wait + Sync>(
-    rt: &R,
-    rows: &[GameRow],
-    workers: usize,
-) -> bool
-    requires { 0 < workers }
-{
-    let game = shared_game(rt, rows);
-    end_well_over_words(rt, &game, workers)
+/// One worker, two and eight over words leave nothing to lift.
+pub(crate) fn all_end_well_over_words(rt: &impl Host, game: &Arc<Game, Global>) {
+    holds!(rt; ends_well_over_words(rt, game, 1), "one worker over words");
+    holds!(rt; ends_well_over_words(rt, game, 2), "two workers over words");
+    holds!(rt; ends_well_over_words(rt, game, 8), "eight workers over words");
 }
 
 /// Whether the table that workers begin with leaves something to lift.
-pub(crate) fn is_left(rt: &(impl Abort + AllocGlobal), game: &Game) -> bool {
+pub(crate) fn is_left(rt: &impl Host, game: &Game) -> bool {
     let first = opened(rt, game);
     !is_settled(game, &first)
 }
 
-// Whether the table that workers begin with leaves something to lift of the game of these vertices.
-fn is_left_to_workers(rt: &(impl Abort + AllocGlobal), rows: &[GameRow]) -> bool {
+// Any workers leave nothing to lift of the game of these vertices, whose opening table leaves something.
+fn leave_nothing(rt: &impl Host, rows: &[GameRow]) {
     let game = shared_game(rt, rows);
-    is_left(rt, &game)
-}
-
-// So many workers leave nothing to lift of any of the games.
-fn leave_nothing<R: Abort + AllocGlobal + Threads + Wait + Clone + Copy + Drop + Send + Sync>(
-    rt: &R,
-    workers: usize,
-)
-    requires { 0 < workers }
-{
-    let number = workers as u64;
-    holds_of(
-        rt,
-        all_end_well(rt, &ODD_RING, workers),
-        "on a ring",
-        number,
-    );
-    holds_of(rt, all_end_well(rt, &WAY, workers), "on a way", number);
-    holds_of(
-        rt,
-        all_end_well(rt, &TWO_RINGS, workers),
-        "on two rings",
-        number,
-    );
+    holds!(rt; is_left(rt, &game));
+    all_end_well_over_shards(rt, &game);
+    all_end_well_over_words(rt, &game);
 }
 
 // Settled is what no lift raises, which is looked up at each vertex. The opening table is settled of none of these games, so it is
 // the workers' doing.
 #[test]
 fn workers_leave_nothing_to_lift(rt: HostRuntime) {
-    holds!(&rt; is_left_to_workers(&rt, &ODD_RING));
-    holds!(&rt; is_left_to_workers(&rt, &WAY));
-    holds!(&rt; is_left_to_workers(&rt, &TWO_RINGS));
-    leave_nothing(&rt, 1);
-    leave_nothing(&rt, 2);
-    leave_nothing(&rt, 8);
-}
-
-// So many workers over words leave nothing to lift of any of the games.
-fn leave_nothing_over_words<R: Abort + AllocGlobal + Threads + Wait + Sync>(rt: &R, workers: usize)
-    requires { 0 < workers }
-{
-    let number = workers as u64;
-    holds_of(
-        rt,
-        all_end_well_over_words(rt, &ODD_RING, workers),
-        "on a ring",
-        number,
-    );
-    holds_of(
-        rt,
-        all_end_well_over_words(rt, &WAY, workers),
-        "on a way",
-        number,
-    );
-    holds_of(
-        rt,
-        all_end_well_over_words(rt, &TWO_RINGS, workers),
-        "on two rings",
-        number,
-    );
-}
-
-#[test]
-fn workers_leave_nothing_to_lift_over_words(rt: HostRuntime) {
-    leave_nothing_over_words(&rt, 1);
-    leave_nothing_over_words(&rt, 2);
-    leave_nothing_over_words(&rt, 8);
+    leave_nothing(&rt, &ODD_RING);
+    leave_nothing(&rt, &WAY);
+    leave_nothing(&rt, &TWO_RINGS);
 }

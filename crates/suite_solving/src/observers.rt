@@ -1,16 +1,17 @@
 // What observers are told. The numbers of vertices are counted by hand; turns are told of at each 4,096th of a worker, and each vertex has one at least.
 
-use crate::common::{holds, holds_of};
+use crate::common::holds_of;
 use game::gauge::Gauge;
 use game::graph::Game;
 use game::observer::{Observer, Stage};
 use samples::games::shared_arena_of;
+use samples::holds;
+use samples::host::Host;
 use samples::texts::ring;
 use std::alloc::Global;
 use std::process::Abort;
+use std::sync::Arc;
 use std::sync::atomic::{AtomicU64, Ordering};
-use std::sync::{Arc, Wait};
-use std::thread::Threads;
 use workers::gate::NoGate;
 use workers::team::{BoardKind, Team, solve_by};
 
@@ -50,7 +51,7 @@ impl Observer for LiftingCounts {
 }
 
 /// The game of a formula with seven nodes at a ring of 2,500 states: 17,502 vertices.
-fn game_of_the_ring(rt: &(impl Abort + AllocGlobal + Threads + Sync)) -> Arc<Game, Global> {
+fn game_of_the_ring(rt: &impl Host) -> Arc<Game, Global> {
     let system = ring(rt.alloc(), 2500).expect(rt, "memory");
     shared_arena_of(rt, system.as_str(), "nu X. mu Y. (<a>X || <b>Y)").expect(rt, "a game")
 }
@@ -75,11 +76,7 @@ impl LiftingCounts {
 }
 
 /// Each vertex is a job of some worker once at least, so of 17,502 lifts by two workers one at least tells of 4,096.
-fn tells_of_workers<R: Abort + AllocGlobal + Threads + Wait + Clone + Copy + Drop + Send + Sync>(
-    rt: &R,
-    game: &Arc<Game, Global>,
-    board: BoardKind,
-) {
+fn tells_of_workers(rt: &impl Host, game: &Arc<Game, Global>, board: BoardKind) {
     let tally = LiftingCounts::new();
     let team = Team {
         workers: 2,

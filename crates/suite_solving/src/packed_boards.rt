@@ -5,7 +5,7 @@ ghost use Rattle.tables.specs.Seats.{board_game, IsSeatOf};
 
 use crate::boards::{diamond, is_finished, rises_to_the_settled};
 use crate::climbing_workers::built;
-use crate::common::{board_of_words, holds};
+use crate::common::board_of_words;
 use crate::progress_measures::{LEAST, is_as_wanted, nested_binders_game};
 use game::graph::{Game, GameBuilder};
 use game::player::Player;
@@ -14,10 +14,12 @@ use measures::progs::is_measure;
 use measures::rank::{of_rank, rank, top_rank};
 use measures::table::PlainTable;
 use samples::games::push_row;
+use samples::holds;
+use samples::host::Host;
 use std::alloc::{AllocError, Global};
 use std::process::Abort;
 use std::sync::Arc;
-use std::thread::{Threads, map_indices};
+use std::thread::map_indices;
 use tables::board::Board;
 use tables::error::TableError;
 use tables::packed::{PackedBoard, PackedSeat};
@@ -35,7 +37,7 @@ fn push_loops(builder: &mut GameBuilder, priority: u8, times: u32) -> Result<(),
 }
 
 // 15 loops of each odd priority from 3 to 31, and so many of priority 1.
-fn loops(rt: &(impl Abort + AllocGlobal), ones: u32) -> Arc<Game, Global> {
+fn loops(rt: &impl Host, ones: u32) -> Arc<Game, Global> {
     let mut builder = GameBuilder::new(rt.alloc());
     holds!(rt; push_loops(&mut builder, 1, ones).is_ok());
     for half in 1..16u8 {
@@ -96,7 +98,7 @@ fn top_has_a_rank_just_below_the_limit(rt: HostRuntime) {
 }
 
 // A board of the diamond, for so many seats.
-fn diamond_board(rt: &(impl Abort + AllocGlobal), seats: u32) -> PackedBoard
+fn diamond_board(rt: &impl Host, seats: u32) -> PackedBoard
     requires { 0 < seats }
     ensures { 4 < length (board_game result).vertices }
 {
@@ -111,7 +113,7 @@ fn new_seat(rt: &impl Abort, board: &PackedBoard) -> PackedSeat
 }
 
 // What the board comes to when its seat is given back.
-fn closed(rt: &(impl Abort + AllocGlobal), board: PackedBoard, seat: PackedSeat) -> PlainTable
+fn closed(rt: &impl Host, board: PackedBoard, seat: PackedSeat) -> PlainTable
     requires { IsSeatOf board seat }
     ensures { result.game ≡ board_game board }
 {
@@ -165,7 +167,7 @@ fn lifts_or_looks(board: &PackedBoard, thread: usize) -> bool
     false
 }
 
-fn is_seen_by_another<R: Abort + AllocGlobal + Threads + Sync>(rt: &R, board: &PackedBoard)
+fn is_seen_by_another(rt: &impl Host, board: &PackedBoard)
     requires { 4 < length (board_game board.now).vertices }
 {
     let seen = map_indices(
@@ -202,7 +204,7 @@ fn settles_least(board: &PackedBoard) -> bool
     true
 }
 
-fn settles_at_once<R: Abort + AllocGlobal + Threads + Sync>(rt: &R, board: &PackedBoard)
+fn settles_at_once(rt: &impl Host, board: &PackedBoard)
     requires { 18 ≤ length (board_game board.now).vertices }
 {
     let least = map_indices(

@@ -3,14 +3,16 @@
 
 ghost use Rattle.std.specs.Prelude.{◌≡◌, ◌<◌, length};
 
-use crate::common::{game_from, holds, holds_of, least, opened, settled};
+use crate::common::{game_by_hand, holds_of, opened, settled, solved};
 use game::graph::Game;
 use game::player::Player;
 use measures::measure::Measure;
 use measures::progs::{is_measure, lift, prog};
-use measures::settle::{even_wins, is_settled, settle};
+use measures::settle::{is_settled, settle};
 use measures::table::{PlainTable, Settled};
 use samples::games::GameRow;
+use samples::holds;
+use samples::host::Host;
 use std::process::Abort;
 
 // The game of `mu Z. nu Y. mu X. (<a>Z || <b>Y)` on the system whose first state leads by a to the second, which leads by b
@@ -67,8 +69,8 @@ static PROGS: [(u32, [u32; 2], Option<[u32; 2]>); 5] = [
     (5, [1, 3], Some([1, 3])),
 ];
 
-pub(crate) fn nested_binders_game(rt: &(impl Abort + AllocGlobal)) -> Game {
-    game_from(rt, &NESTED)
+pub(crate) fn nested_binders_game(rt: &impl Host) -> Game {
+    game_by_hand(rt, &NESTED)
 }
 
 pub(crate) fn is_as_wanted(m: &Measure, want: &Option<[u32; 2]>) -> bool {
@@ -97,11 +99,11 @@ fn are_least(rt: &impl Abort, game: &Game, table: &Settled)
 #[test]
 fn finds_the_least_measures(rt: HostRuntime) {
     let game = nested_binders_game(&rt);
-    let table = least(&rt, &game);
+    let table = solved(&rt, &game);
     are_least(&rt, &game, &table);
 }
 
-fn is_settled_later(rt: &(impl Abort + AllocGlobal), game: &Game) {
+fn is_settled_later(rt: &impl Host, game: &Game) {
     let mut table = opened(rt, game);
     holds!(rt; !is_settled(game, &table));
     settle(game, &mut table);
@@ -125,7 +127,7 @@ fn rises(rt: &impl Abort, table: &mut PlainTable, source: &PlainTable)
 }
 
 // A table of a game is raised at one vertex.
-fn rises_of(rt: &(impl Abort + AllocGlobal), game: &Game, source: &PlainTable)
+fn rises_of(rt: &impl Host, game: &Game, source: &PlainTable)
     requires { source.now.game ≡ game.now }
 {
     holds!(rt; 4 < game.vertices());
@@ -156,26 +158,6 @@ fn asks_for_the_least(rt: HostRuntime) {
     for (v, counts, want) in &PROGS {
         asks_for(&rt, &game, *v, counts, want);
     }
-}
-
-// Even wins either both or none of two vertices between which the play goes round.
-fn wins(rt: &(impl Abort + AllocGlobal), rows: &[GameRow], is_won: bool) {
-    let game = game_from(rt, rows);
-    let settled = least(rt, &game);
-    holds!(rt; game.vertices() == 2);
-    holds!(rt; even_wins(&settled, 0) == is_won);
-    holds!(rt; even_wins(&settled, 1) == is_won);
-}
-
-// Rounds whose greatest priority is even and odd.
-static EVEN_ROUND: [GameRow; 2] = [(Player::Even, 0, &[1]), (Player::Odd, 2, &[0])];
-
-static ODD_ROUND: [GameRow; 2] = [(Player::Even, 0, &[1]), (Player::Odd, 1, &[0])];
-
-#[test]
-fn tells_who_wins(rt: HostRuntime) {
-    wins(&rt, &EVEN_ROUND, true);
-    wins(&rt, &ODD_ROUND, false);
 }
 
 // The one measure is below the other, and both are below top.

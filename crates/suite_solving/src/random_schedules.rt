@@ -3,7 +3,7 @@
 
 ghost use Rattle.std.specs.Prelude.{◌≡◌, ◌<◌};
 
-use crate::common::{game_from, holds, holds_of, least, rolled_game};
+use crate::common::{game_by_hand, holds_of, rolled_game, solved};
 use crate::schedules::{STEP_ROWS, TWO_STEPS, new_core};
 use game::graph::Game;
 use liftcore::event::{Event, Outcome};
@@ -12,6 +12,8 @@ use measures::measure::Measure;
 use measures::table::Settled;
 use samples::dice::Dice;
 use samples::games::GameRow;
+use samples::holds;
+use samples::host::Host;
 use std::alloc::{AllocError, Global};
 use std::process::Abort;
 
@@ -190,43 +192,38 @@ fn follow_at_random(
 }
 
 /// A core is settled where its table is the one that a single thread finds, and a quiet one is settled.
-fn is_settled_at_the_least(rt: &(impl Abort + AllocGlobal), game: &Game, core: &Core<'_>) {
-    let settled = least(rt, game);
+fn is_settled_at_the_least(rt: &impl Host, game: &Game, core: &Core<'_>) {
+    let settled = solved(rt, game);
     holds!(rt; core.is_settled() == has_table(game, core, &settled));
     holds!(rt; core.is_settled() || !core.is_quiet());
 }
 
 /// Nothing was told yet.
-fn untold(rt: &(impl Abort + AllocGlobal), game: &Game) -> RunOutcomes {
+fn untold(rt: &impl Host, game: &Game) -> RunOutcomes {
     RunOutcomes::new(rt.alloc(), game.vertices()).expect(rt, "memory")
 }
 
 /// Replays events at random by a core that has done nothing yet.
-fn replay_noted(
-    rt: &(impl Abort + AllocGlobal),
-    dice: &mut Dice,
-    game: &Game,
-    told: &mut RunOutcomes,
-) {
+fn replay_noted(rt: &impl Host, dice: &mut Dice, game: &Game, told: &mut RunOutcomes) {
     let mut core = new_core(rt, game, WORKERS);
     follow_at_random(rt, dice, game, &mut core, told);
     is_settled_at_the_least(rt, game, &core);
 }
 
 /// Replays events at random from the start.
-fn replay_at_random(rt: &(impl Abort + AllocGlobal), dice: &mut Dice, game: &Game) {
+fn replay_at_random(rt: &impl Host, dice: &mut Dice, game: &Game) {
     let mut told = untold(rt, game);
     replay_noted(rt, dice, game, &mut told);
 }
 
-fn replay_often(rt: &(impl Abort + AllocGlobal), dice: &mut Dice, game: &Game) {
+fn replay_often(rt: &impl Host, dice: &mut Dice, game: &Game) {
     for _ in 0..20 {
         replay_at_random(rt, dice, game);
     }
 }
 
-fn replay_rows(rt: &(impl Abort + AllocGlobal), dice: &mut Dice, rows: &[GameRow]) {
-    let game = game_from(rt, rows);
+fn replay_rows(rt: &impl Host, dice: &mut Dice, rows: &[GameRow]) {
+    let game = game_by_hand(rt, rows);
     replay_often(rt, dice, &game);
 }
 

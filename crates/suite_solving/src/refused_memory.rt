@@ -5,17 +5,17 @@ ghost use Rattle.std.specs.Prelude.{◌≡◌, ◌<◌};
 ghost use Rattle.std.specs.Arc.{arc_value};
 
 use crate::climbing_workers::TurnsByWorker;
-use crate::common::{agree, board_of_shards, board_of_words, holds, least};
+use crate::common::{agree, board_of_shards, board_of_words, solved};
 use game::graph::Game;
 use game::name::GameName;
 use measures::table::Settled;
 use samples::games::shared_arena_of;
+use samples::holds;
+use samples::host::Host;
 use samples::texts::RING;
 use std::alloc::Global;
 use std::marker::Brand;
-use std::process::Abort;
-use std::sync::{Arc, Wait};
-use std::thread::Threads;
+use std::sync::Arc;
 use tables::board::Board;
 use workers::error::SolveError;
 use workers::solving::solve;
@@ -24,8 +24,8 @@ use workers::solving::solve;
 const SHARDS: u32 = 3;
 
 /// Whether workers over the board come to this table, or memory was refused and none of them had a turn.
-fn is_solved_or_unbegun<B: Board + Drop + Sync, R: Threads + Wait + Sync>(
-    rt: &R,
+fn is_solved_or_unbegun<B: Board + Drop + Sync>(
+    rt: &impl Host,
     alloc: Global,
     game: &Arc<Game, Global>,
     board: B,
@@ -44,8 +44,8 @@ fn is_solved_or_unbegun<B: Board + Drop + Sync, R: Threads + Wait + Sync>(
 }
 
 /// Whether workers over words come to this table, or memory was refused and none of them had a turn.
-fn is_solved_over_words<R: Abort + AllocGlobal + Threads + Wait + Sync>(
-    rt: &R,
+fn is_solved_over_words(
+    rt: &impl Host,
     game: &Arc<Game, Global>,
     workers: usize,
     wanted: &Settled,
@@ -58,10 +58,12 @@ fn is_solved_over_words<R: Abort + AllocGlobal + Threads + Wait + Sync>(
 }
 
 /// Whether workers over shards under locks come to this table, or memory was refused and none of them had a turn.
-fn is_solved_over_shards<
-    K: GameName + Send + Sync,
-    R: Abort + AllocGlobal + Threads + Wait + Clone + Copy + Drop + Send + Sync,
->(rt: &R, game: &Arc<Game, Global>, workers: usize, wanted: &Settled) -> bool
+fn is_solved_over_shards<K: GameName + Send + Sync, R: Host>(
+    rt: &R,
+    game: &Arc<Game, Global>,
+    workers: usize,
+    wanted: &Settled,
+) -> bool
     requires named { arc_value game.now ≡ K.game }
     requires workers { 0 < workers }
     requires wanted { wanted.now.game ≡ arc_value game.now }
@@ -71,28 +73,23 @@ fn is_solved_over_shards<
 }
 
 /// The game that asks on a ring of two states whether some path has `a` again and again.
-fn often_a(rt: &(impl Abort + AllocGlobal + Threads + Sync)) -> Arc<Game, Global> {
+fn often_a(rt: &impl Host) -> Arc<Game, Global> {
     shared_arena_of(rt, RING, "nu X. mu Y. (<a>X || <b>Y)").expect(rt, "memory")
 }
 
-fn refuses_before_turns_over_words<R: Abort + AllocGlobal + Threads + Wait + Sync>(
-    rt: &R,
-    workers: usize,
-)
+fn refuses_before_turns_over_words(rt: &impl Host, workers: usize)
     requires { 0 < workers }
 {
     let game = often_a(rt);
-    let wanted = least(rt, &game);
+    let wanted = solved(rt, &game);
     holds!(rt; is_solved_over_words(rt, &game, workers, &wanted));
 }
 
-fn refuses_before_turns_over_shards<
-    R: Abort + AllocGlobal + Threads + Wait + Clone + Copy + Drop + Send + Sync,
->(rt: &R, workers: usize)
+fn refuses_before_turns_over_shards<R: Host>(rt: &R, workers: usize)
     requires { 0 < workers }
 {
     let game = often_a(rt);
-    let wanted = least(rt, &game);
+    let wanted = solved(rt, &game);
     let is_so = is_solved_over_shards::<Brand, R>(rt, &game, workers, &wanted);
     holds!(rt; is_so, "memory is refused before turns over shards");
 }

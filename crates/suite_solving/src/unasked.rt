@@ -4,7 +4,7 @@
 ghost use Rattle.std.specs.Prelude.{◌≡◌, ◌<◌, ◌≤◌, length};
 ghost use Rattle.game.specs.Game.{greatest};
 
-use crate::common::{game_from, holds, opened, settled};
+use crate::common::{game_by_hand, opened, settled};
 use crate::schedules::TWO_STEPS;
 use evidence::evidence::Evidence;
 use evidence::reader::read_evidence;
@@ -21,18 +21,19 @@ use measures::settle::{is_settled, settle};
 use measures::table::PlainTable;
 use pgsolver::{read_game, write_game};
 use samples::games::shared_arena_of;
+use samples::holds;
+use samples::host::Host;
 use samples::readers::SlowReader;
 use samples::texts::{RING, repeated_text, ring, system_read, unseeded};
 use std::alloc::Global;
 use std::marker::Brand;
 use std::process::Abort;
 use std::sync::Arc;
-use std::thread::Threads;
 use tables::shard::Shard;
 
 // A table of a game, which is settled or left as it is.
-fn of_table(rt: &(impl Abort + AllocGlobal), settles: bool) {
-    let game = game_from(rt, &TWO_STEPS);
+fn of_table(rt: &impl Host, settles: bool) {
+    let game = game_by_hand(rt, &TWO_STEPS);
     let mut table = opened(rt, &game);
     if settles {
         settle(&game, &mut table);
@@ -51,12 +52,7 @@ fn a_table_is_made_and_settled(rt: HostRuntime) {
 }
 
 // A shard of every second vertex, which is raised to top at one or left as it is.
-fn of_shard<K: GameName>(
-    rt: &(impl Abort + AllocGlobal),
-    game: &Game,
-    source: &PlainTable,
-    raises: bool,
-)
+fn of_shard<K: GameName>(rt: &impl Host, game: &Game, source: &PlainTable, raises: bool)
     requires named { game.now ≡ K.game }
     requires same { source.now.game ≡ K.game }
     requires vertex { 2 < length source.now.game.vertices }
@@ -84,8 +80,8 @@ fn rises_or_stays<K: GameName>(
 }
 
 // A shard of every second vertex of a game, which is raised to the settled table's top at one or left as it is.
-fn of_settled(rt: &(impl Abort + AllocGlobal), raises: bool) {
-    let game = game_from(rt, &TWO_STEPS);
+fn of_settled(rt: &impl Host, raises: bool) {
+    let game = game_by_hand(rt, &TWO_STEPS);
     let source = settled(rt, &game);
     holds!(rt; 2 < game.vertices());
     of_shard::<Brand>(rt, &game, &source, raises)
@@ -109,12 +105,12 @@ const EVEN: &str = "evidence even\n0 1 (0)\n1 - (1)\n";
 const ODD: &str = "evidence odd\n";
 
 // Evidence of both players, which is checked or left as it is.
-fn of_evidence(rt: &(impl Abort + AllocGlobal), checks: bool) {
+fn of_evidence(rt: &impl Host, checks: bool) {
     let game = game_read(rt, GAME.as_bytes());
     of_pieces(rt, &game, checks);
 }
 
-fn of_pieces(rt: &(impl Abort + AllocGlobal), game: &Game, checks: bool) {
+fn of_pieces(rt: &impl Host, game: &Game, checks: bool) {
     let even = evidence_read(rt, game, EVEN);
     let odd = evidence_read(rt, game, ODD);
     if checks {
@@ -130,11 +126,11 @@ fn are_good(rt: &impl Abort, game: &Game, even: &Evidence, odd: &Evidence)
     holds!(rt; check_both(game, even, odd) == Both::Yes);
 }
 
-fn game_read(rt: &(impl Abort + AllocGlobal), text: &[u8]) -> Game {
+fn game_read(rt: &impl Host, text: &[u8]) -> Game {
     read_game(rt.alloc(), text).expect(rt, "a game")
 }
 
-fn evidence_read(rt: &(impl Abort + AllocGlobal), game: &Game, text: &str) -> Evidence
+fn evidence_read(rt: &impl Host, game: &Game, text: &str) -> Evidence
     ensures { result.game ≡ game.now }
 {
     read_evidence(rt.alloc(), text.as_bytes(), game).expect(rt, "evidence")
@@ -151,13 +147,13 @@ fn evidence_is_made_and_checked(rt: HostRuntime) {
 }
 
 // A system, a game and evidence, and room for their texts, which are written or not.
-fn of_texts(rt: &(impl Abort + AllocGlobal), writes: bool) {
+fn of_texts(rt: &impl Host, writes: bool) {
     let system = system_read(rt.alloc(), RING).expect(rt, "a system");
     let game = game_read(rt, GAME.as_bytes());
     of_system_and_game(rt, &system, &game, writes);
 }
 
-fn of_system_and_game(rt: &(impl Abort + AllocGlobal), system: &Lts, game: &Game, writes: bool) {
+fn of_system_and_game(rt: &impl Host, system: &Lts, game: &Game, writes: bool) {
     let even = evidence_read(rt, game, EVEN);
     let mut out = Vec::with_capacity(rt.alloc(), 1_000).expect(rt, "memory");
     if writes {
@@ -195,7 +191,7 @@ const HEADER: &str = "des (0,1,2)\n";
 const AT_ONCE: usize = 1_000_000;
 
 // A text with many blanks and one without, of which one is read, some bytes at a time.
-fn of_system(rt: &(impl Abort + AllocGlobal), has_blanks: bool, step: usize) {
+fn of_system(rt: &impl Host, has_blanks: bool, step: usize) {
     let blanks = blank_text(rt, BLANKS);
     let none = blank_text(rt, 0);
     let text = if has_blanks { &blanks } else { &none };
@@ -203,16 +199,12 @@ fn of_system(rt: &(impl Abort + AllocGlobal), has_blanks: bool, step: usize) {
 }
 
 // The text with so many blanks.
-fn blank_text(rt: &(impl Abort + AllocGlobal), blanks: usize) -> String {
+fn blank_text(rt: &impl Host, blanks: usize) -> String {
     repeated_text(rt.alloc(), HEADER, " ", blanks, LINE).expect(rt, "memory")
 }
 
-fn is_read(rt: &(impl Abort + AllocGlobal), text: &str, step: usize) {
-    let reader = SlowReader {
-        left: text.as_bytes(),
-        step,
-        fails: false,
-    };
+fn is_read(rt: &impl Host, text: &str, step: usize) {
+    let reader = SlowReader::whole(text.as_bytes(), step);
     let system = read_aut(rt.alloc(), unseeded(), reader).expect(rt, "a system");
     holds!(rt; system.states() == 2 && system.all().len() == 1);
 }
@@ -238,7 +230,7 @@ fn a_system_is_read_and_has_many_blanks_in_pieces(rt: HostRuntime) {
 }
 
 // The text of a game of 25,002 vertices, which is read; and its dual, or not.
-fn of_game(rt: &(impl Abort + AllocGlobal + Threads + Sync), has_dual: bool) {
+fn of_game(rt: &impl Host, has_dual: bool) {
     let arena = long_arena(rt);
     let text = game_text(rt, &arena);
     let game = game_read(rt, text.as_slice());
@@ -248,18 +240,18 @@ fn of_game(rt: &(impl Abort + AllocGlobal + Threads + Sync), has_dual: bool) {
     }
 }
 
-fn long_arena(rt: &(impl Abort + AllocGlobal + Threads + Sync)) -> Arc<Game, Global> {
+fn long_arena(rt: &impl Host) -> Arc<Game, Global> {
     let system = ring(rt.alloc(), 2500).expect(rt, "memory");
     shared_arena_of(rt, system.as_str(), "[true*]<true*>(<a>true)").expect(rt, "a game")
 }
 
-fn game_text(rt: &(impl Abort + AllocGlobal), game: &Game) -> Vec<u8> {
+fn game_text(rt: &impl Host, game: &Game) -> Vec<u8> {
     let mut text = Vec::new(rt.alloc());
     holds!(rt; write_game(game, &mut text).is_ok());
     text
 }
 
-fn dual_is_made(rt: &(impl Abort + AllocGlobal), game: &Game)
+fn dual_is_made(rt: &impl Host, game: &Game)
     requires { greatest game.now ≤ 31 }
 {
     let dual = dual(rt.alloc(), game).expect(rt, "memory");

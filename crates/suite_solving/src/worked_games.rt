@@ -4,19 +4,19 @@
 ghost use Rattle.std.specs.Prelude.{◌≡◌};
 ghost use Rattle.std.specs.Arc.{arc_value};
 
-use crate::common::{board_of_shards, board_of_words, holds};
-use crate::many_workers::{end_well_over_shards, end_well_over_words, is_left};
+use crate::common::{board_of_shards, board_of_words};
+use crate::many_workers::{all_end_well_over_shards, all_end_well_over_words, is_left};
 use game::graph::Game;
 use game::name::GameName;
 use samples::games::shared_arena_of;
+use samples::holds;
+use samples::host::Host;
 use samples::meeting::Meeting;
 use samples::ring_games::STAY;
 use samples::texts::{RING, ring};
 use std::alloc::Global;
 use std::marker::Brand;
-use std::process::Abort;
-use std::sync::{Arc, Wait};
-use std::thread::Threads;
+use std::sync::Arc;
 use tables::board::Board;
 use workers::solving::solve;
 
@@ -28,38 +28,13 @@ static NESTED: [(&str, &str); 3] = [
 ];
 
 /// The game of the texts, of which the opening table leaves something to lift.
-fn left_game(
-    rt: &(impl Abort + AllocGlobal + Threads + Sync),
-    system: &str,
-    formula: &str,
-) -> Arc<Game, Global> {
+fn left_game(rt: &impl Host, system: &str, formula: &str) -> Arc<Game, Global> {
     let game = shared_arena_of(rt, system, formula).expect(rt, "a game");
     holds!(rt; is_left(rt, &game), formula);
     game
 }
 
-fn all_end_well_over_shards<
-    R: Abort + AllocGlobal + Threads + Wait + Clone + Copy + Drop + Send + Sync,
->(rt: &R, game: &Arc<Game, Global>) {
-    holds!(rt; end_well_over_shards(rt, game, 1));
-    holds!(rt; end_well_over_shards(rt, game, 2));
-    holds!(rt; end_well_over_shards(rt, game, 8));
-}
-
-fn all_end_well_over_words<R: Abort + AllocGlobal + Threads + Wait + Sync>(
-    rt: &R,
-    game: &Arc<Game, Global>,
-) {
-    holds!(rt; end_well_over_words(rt, game, 1));
-    holds!(rt; end_well_over_words(rt, game, 2));
-    holds!(rt; end_well_over_words(rt, game, 8));
-}
-
-fn all_end_well<R: Abort + AllocGlobal + Threads + Wait + Clone + Copy + Drop + Send + Sync>(
-    rt: &R,
-    system: &str,
-    formula: &str,
-) {
+fn all_end_well(rt: &impl Host, system: &str, formula: &str) {
     let game = left_game(rt, system, formula);
     all_end_well_over_shards(rt, &game);
     all_end_well_over_words(rt, &game);
@@ -73,7 +48,7 @@ fn workers_settle_fixpoints_that_depend_on_each_other(rt: HostRuntime) {
 }
 
 /// The game of 25,002 vertices that asks on a ring whether `a`, which one state alone has, stays ahead. Measures climb there one by one.
-fn long_game(rt: &(impl Abort + AllocGlobal + Threads + Sync)) -> Arc<Game, Global> {
+fn long_game(rt: &impl Host) -> Arc<Game, Global> {
     let system = ring(rt.alloc(), 2500).expect(rt, "memory");
     left_game(rt, system.as_str(), "[true*]<true*>(<a>true)")
 }
@@ -91,11 +66,7 @@ fn workers_settle_a_long_ring_over_words(rt: HostRuntime) {
 }
 
 /// Whether two workers over this board come to their first turns, each before the other may go on.
-fn meet<B: Board + Drop + Sync, R: Abort + AllocGlobal + Threads + Wait + Sync>(
-    rt: &R,
-    game: &Arc<Game, Global>,
-    board: B,
-)
+fn meet<B: Board + Drop + Sync>(rt: &impl Host, game: &Arc<Game, Global>, board: B)
     requires { B.game board ≡ arc_value game.now }
 {
     let gate = Meeting::new();
@@ -103,10 +74,7 @@ fn meet<B: Board + Drop + Sync, R: Abort + AllocGlobal + Threads + Wait + Sync>(
     holds!(rt; gate.took_place());
 }
 
-fn meet_over_shards<
-    K: GameName + Send + Sync,
-    R: Abort + AllocGlobal + Threads + Wait + Clone + Copy + Drop + Send + Sync,
->(rt: &R, game: &Arc<Game, Global>)
+fn meet_over_shards<K: GameName + Send + Sync, R: Host>(rt: &R, game: &Arc<Game, Global>)
     requires { arc_value game.now ≡ K.game }
 {
     let board = board_of_shards::<K, R>(rt, game, 16);
