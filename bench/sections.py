@@ -76,7 +76,7 @@ def sentence(text: str) -> str:
     return " ".join(text.split("\n\n")[0].split())
 
 
-QUESTION_HEAD = ["Question", "Initial state", "Game, s", "MB", "4 workers, s", "MB", "Sets, s", "MB", "Evidence, s", "MB"]
+QUESTION_HEAD = ["Question", "Initial state", "Game, s", "MB", "4 workers, s", "MB", "Sets, s", "MB", "Evidence, s", "MB", "Why, s", "MB"]
 QUESTION_RATIOS = ["Game / reading", "Sets / reading", "Game / sets", "4 workers / 1"]
 
 
@@ -105,7 +105,8 @@ def question_rows(family: Systems, bench: Bench, file: Path, reading: Run | None
     """The row of each question."""
     stopwatch = bench.stopwatch
     for question in family.questions:
-        words = (bench.program, "check", file, bench.written("formula", formula(question, family.actions)))
+        texts = (file, bench.written("formula", formula(question, family.actions)))
+        words = (bench.program, "check", *texts)
         game = stopwatch.run(*words)
         is_done = game is not None and game.is_answer
         by_four = stopwatch.run(*words, "--workers", WORKERS) if is_done else None
@@ -113,7 +114,8 @@ def question_rows(family: Systems, bench: Bench, file: Path, reading: Run | None
         game, by_four, sets = stopwatch.least(game, by_four, sets)
         wanted = is_done and question in family.with_evidence
         evidence = stopwatch.run(*words, "--evidence", bench.evidence()) if wanted else None
-        runs = (game, by_four, sets, evidence)
+        why = stopwatch.run(bench.program, "why", *texts) if wanted else None
+        runs = (game, by_four, sets, evidence, why)
         cells = [cell for run in runs for cell in (tables.seconds(run), tables.memory(run))]
         ratios = [tables.ratio(*pair) for pair in ((game, reading), (sets, reading), (game, sets), (by_four, game))]
         yield [question, tables.answer(runs), *cells, *ratios]
