@@ -56,7 +56,7 @@ struct FoundNumbers {
     heights: List<u64>,
 }
 
-/// Guesses the least measures of both players. There are none where that takes too long, where counts don't fit a word, or for want of memory.
+/// Guesses the least measures of both players. There are none where that takes too long, where counts don't fit a word, or where memory runs out.
 pub fn least_measures(alloc: Global, lts: &Lts, form: &Normal) -> Option<GuessedMeasures> {
     let arena = Arena::of(alloc, lts, form, true)?;
     let mut found = FoundMeasures {

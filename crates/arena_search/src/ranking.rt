@@ -63,7 +63,7 @@ impl ArenaSearch<'_> {
 }
 
 /// Guesses who wins each node of a normal form at each state of a system, as a ranking. There is none where that takes too long, where
-/// its counts don't fit their fields, or for want of memory.
+/// its counts don't fit their fields, or where memory runs out.
 pub fn ranking(alloc: Global, lts: &Lts, form: &Normal) -> Option<GuessedRanking> {
     let arena = Arena::of(alloc, lts, form, false)?;
     let search = ArenaSearch::of(alloc, &arena)?;

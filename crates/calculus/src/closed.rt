@@ -19,7 +19,7 @@ impl Closed {
     /// The tree as an admitted formula. The caller has tested it, as the reader of formulas does.
     ///
     /// # Errors
-    /// Want of memory.
+    /// Out of memory.
     pub fn new(alloc: Global, tree: State) -> Result<Closed, Memory>
         requires { IsAdmitted (formula_of tree) }
         ensures { IfOk result (λ closed. formula_of closed.tree.value ≡ formula_of tree) }

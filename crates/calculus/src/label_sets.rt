@@ -40,7 +40,7 @@ fn set_for(alloc: Global, lts: &Lts, node: &Node) -> Result<Vec<bool>, AllocErro
 /// For each node and each label whether the node's action formula holds of the label. A node without one has no labels.
 ///
 /// # Errors
-/// Want of memory, and nothing else.
+/// Out of memory, and nothing else.
 pub fn label_sets(alloc: Global, lts: &Lts, form: &Normal) -> Result<Vec<Vec<bool>>, AllocError>
     ensures sets { IfOk result (λ sets. AreSets lts.now.labels (normal_nodes form.now) (map (λ set. set.items) sets.items)) }
     ensures count { IfOk result (λ sets. vec_len sets ≡ length (normal_nodes form.now)) }

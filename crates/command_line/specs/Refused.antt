@@ -2,7 +2,7 @@
 use Rattle.requests.specs.declared.error.MuError.{MuError}
 use Rattle.requests.specs.declared.error.MuError.TheVariants as error
 
--- What a command line may be refused for: its words, with the text that says what is wrong with them, or want of memory.
+-- What a command line may be refused for: its words, with the text that says what is wrong with them, or a lack of memory.
 abbrev pub IsLineError : MuError → Type 0
 IsLineError (error.Arguments e) = Unit {0}
 IsLineError error.Memory = Unit {0}

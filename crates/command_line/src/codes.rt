@@ -1,8 +1,8 @@
-// The codes of refusals, what they mean and how they are mended. docs/CODES.md has the same entries, and tests/codes compares both.
+// The codes of refusals, what they mean and how they are fixed. docs/CODES.md has the same entries, and tests/codes compares both.
 
 ghost use Rattle.std.specs.Prelude.{◌≡◌, IfSome};
 
-/// What a code means, and how it is mended.
+/// What a code means, and how it is fixed.
 #[derive(Clone, Copy)]
 pub struct CodeEntry {
     /// A letter and a digit.
@@ -74,7 +74,7 @@ static SYSTEM: [CodeEntry; 9] = [
         code: "A4",
         place: " at line N",
         wrong: "a state isn't below the number of states",
-        remedy: "states are numbered from 0; raise the number of states in the header, or mend \
+        remedy: "states are numbered from 0; raise the number of states in the header, or fix \
         the line",
     },
     CodeEntry {
@@ -82,13 +82,13 @@ static SYSTEM: [CodeEntry; 9] = [
         place: " at line N",
         wrong: "there are fewer transition lines than announced (N is the line that is missing), \
         or line N is one too many",
-        remedy: "mend the header's second number, or see whether the file was cut off",
+        remedy: "fix the header's second number, or see whether the file was cut off",
     },
     CodeEntry {
         code: "A6",
         place: " at line 1",
         wrong: "there is no state, or the initial state isn't one",
-        remedy: "mend the header",
+        remedy: "fix the header",
     },
     CodeEntry {
         code: "A7",
@@ -106,7 +106,7 @@ static SYSTEM: [CodeEntry; 9] = [
     CodeEntry {
         code: "A9",
         place: "",
-        wrong: "want of memory while the system was read",
+        wrong: "out of memory while the system was read",
         remedy: "use a machine with more memory, or reduce the system",
     },
 ];
@@ -145,7 +145,7 @@ static FORMULA: [CodeEntry; 10] = [
         code: "F5",
         place: " at offset N",
         wrong: "the variable there has no binder",
-        remedy: "bind it by `mu` or `nu`, or mend its spelling; an action stands in `<..>` or \
+        remedy: "bind it by `mu` or `nu`, or fix its spelling; an action stands in `<..>` or \
         `[..]` alone",
     },
     CodeEntry {
@@ -174,7 +174,7 @@ static FORMULA: [CodeEntry; 10] = [
     CodeEntry {
         code: "F9",
         place: "",
-        wrong: "want of memory while the formula was read",
+        wrong: "out of memory while the formula was read",
         remedy: "use a machine with more memory",
     },
     CodeEntry {
@@ -182,7 +182,7 @@ static FORMULA: [CodeEntry; 10] = [
         place: " at offset N",
         wrong: "`--strict` was asked for, and the name or the quoted label there is on no transition \
         of the system",
-        remedy: "mend its spelling: a name stands for the label that is just this name, or for one \
+        remedy: "fix its spelling: a name stands for the label that is just this name, or for one \
         that has it between bars, and a label with parameters wants quotes; where the formula \
         speaks of what can't happen, leave `--strict` away",
     },
@@ -216,13 +216,13 @@ static SOLVING: [CodeEntry; 9] = [
     CodeEntry {
         code: "N3",
         place: "",
-        wrong: "want of memory for the normal form",
+        wrong: "out of memory for the normal form",
         remedy: "use a machine with more memory",
     },
     CodeEntry {
         code: "B2",
         place: "",
-        wrong: "want of memory for the game",
+        wrong: "out of memory for the game",
         remedy: "use a machine with more memory, reduce the system, or use `check --plain`",
     },
     CodeEntry {
@@ -235,7 +235,7 @@ static SOLVING: [CodeEntry; 9] = [
     CodeEntry {
         code: "T2",
         place: "",
-        wrong: "want of memory for the board",
+        wrong: "out of memory for the board",
         remedy: "use a machine with more memory, or fewer workers",
     },
     CodeEntry {
@@ -248,7 +248,7 @@ static SOLVING: [CodeEntry; 9] = [
     CodeEntry {
         code: "V1",
         place: "",
-        wrong: "want of memory for the table of measures, one for each vertex",
+        wrong: "out of memory for the table of measures, one for each vertex",
         remedy: "use a machine with more memory, or fewer workers",
     },
 ];
@@ -302,7 +302,7 @@ static GAME: [CodeEntry; 8] = [
     CodeEntry {
         code: "G8",
         place: "",
-        wrong: "want of memory while the game was read",
+        wrong: "out of memory while the game was read",
         remedy: "use a machine with more memory, or reduce the game",
     },
 ];
@@ -337,7 +337,7 @@ static EVIDENCE: [CodeEntry; 5] = [
     CodeEntry {
         code: "E5",
         place: "",
-        wrong: "want of memory for evidence",
+        wrong: "out of memory for evidence",
         remedy: "use a machine with more memory",
     },
 ];
@@ -348,7 +348,7 @@ static CHECKING: [CodeEntry; 5] = [
         place: " at V",
         wrong: "V is the player's, and its move is missing or leads to no successor; or V is the \
         opponent's and has a move",
-        remedy: "mend the move",
+        remedy: "fix the move",
     },
     CodeEntry {
         code: "C2",
@@ -360,7 +360,7 @@ static CHECKING: [CodeEntry; 5] = [
         code: "C3",
         place: " at V",
         wrong: "along such an edge the rank rises, or doesn't fall where it has to",
-        remedy: "the ranks don't fit the moves: mend one or the other",
+        remedy: "the ranks don't fit the moves: fix one or the other",
     },
     CodeEntry {
         code: "C4",
@@ -400,7 +400,7 @@ static SCHEDULE: [CodeEntry; 4] = [
     CodeEntry {
         code: "S4",
         place: "",
-        wrong: "want of memory for the events or for the workers' state",
+        wrong: "out of memory for the events or for the workers' state",
         remedy: "use a machine with more memory, or fewer workers",
     },
 ];
@@ -428,7 +428,7 @@ static CALL: [CodeEntry; 5] = [
     CodeEntry {
         code: "U4",
         place: "",
-        wrong: "want of memory in the program itself",
+        wrong: "out of memory in the program itself",
         remedy: "use a machine with more memory",
     },
     CodeEntry {

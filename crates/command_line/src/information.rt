@@ -58,7 +58,7 @@ pub fn version_text(alloc: Global) -> Result<String, MuError>
     text(format!(in alloc; "mucheck {VERSION}\n"))
 }
 
-/// What a code means, in small letters or capital ones, and how it is mended.
+/// What a code means, in small letters or capital ones, and how it is fixed.
 ///
 /// # Errors
 /// U1 where there is no such code, U4.

@@ -72,6 +72,7 @@ pub fn command<'a>(alloc: Global, words: &'a [String]) -> Result<Command<'a>, Mu
     ensures plain { IfOk result IsPlainAlone }
     ensures kept { IfOk result KeepsFiles }
     ensures once { IfOk result ReadsItOnce }
+
     ensures refused { IfErr result IsLineError }
     ensures only { IfErr result (λ e. IfArguments e (IsRefusable (map (λ word. string_bytes word) words.now))) }
 {
@@ -96,7 +97,7 @@ fn matches_of<'a>(alloc: Global, words: &'a [String]) -> Result<ArgMatches<'a>, 
     }
 }
 
-/// The refusal for what `clap` answers in place of matches; want of memory is the engine's.
+/// The refusal for what `clap` answers in place of matches; out of memory is the engine's.
 pub(crate) fn refusal(alloc: Global, error: &ClapError) -> MuError
     ensures line { IsLineError result }
     ensures memory { kind_of error.now ≡ ErrorKind.OutOfMemory → result ≡ MuError.Memory }
@@ -115,6 +116,7 @@ fn request_of<'a>(alloc: Global, matches: &ArgMatches<'a>) -> Result<Command<'a>
     ensures asked { IfOk result (IsRead (subcommand_rows_of matches.now)) }
     ensures complete { IfOk result IsComplete }
     ensures plain { IfOk result IsPlainAlone }
+
     ensures refused { IfErr result IsLineError }
     ensures only { IfErr result (λ e. IfArguments e (ReadsNone (subcommand_rows_of matches.now))) }
 {
@@ -154,6 +156,7 @@ fn table_of<'a>(alloc: Global, matches: &ArgMatches<'a>) -> Result<Command<'a>, 
     ensures asked { IfOk result (IsCommand (codes "table") (rows_of (found_of matches.now))) }
     ensures complete { IfOk result IsComplete }
     ensures plain { IfOk result IsPlainAlone }
+
     ensures refused { IfErr result IsLineError }
     ensures only { IfErr result (λ e. IfArguments e (AsksForNone (codes "table") (rows_of (found_of matches.now)))) }
 {
@@ -521,6 +524,7 @@ fn optional_name<'a>(matches: &ArgMatches<'a>, id: &str) -> Result<Option<&'a st
 fn number(matches: &ArgMatches<'_>, id: &str, default: u32, most: u32) -> Result<u32, ArgumentError>
     requires some { 1 ≤ default }
     requires few { default ≤ most }
+
     ensures asked { IfOk result (IsNumberIn (rows_of (found_of matches.now)) id.now default) }
     ensures within { IfOk result (λ n. (1 ≤ n) × (n ≤ most)) }
     ensures only { IfErr result (λ _. HasNoNumber (rows_of (found_of matches.now)) id.now default most) }

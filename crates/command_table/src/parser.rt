@@ -95,7 +95,7 @@ const AFTER: &str =
     "mucheck help COMMAND says more of a command; for a pager, mucheck help | less. One of the\n\
 files that it reads may be -, which is standard input.\n\n\
 A refusal begins with a line on standard error, mucheck: CODE, with its place. The command\n\
-mucheck explain CODE says what it means and how to mend it. The most frequent:\n\
+mucheck explain CODE says what it means and how to fix it. The most frequent:\n\
 \x20 A1      mostly both files in the wrong order, or a byte order mark\n\
 \x20 A2      mostly a label without quotes\n\
 \x20 F1, F2  in a modality mostly a label with parameters, which wants quotes: <\"send(1)\">true\n\
@@ -175,7 +175,7 @@ where an argument or a text is refused, and 3 where memory, a file, a read or a 
 failed.\n\n\
 Example:\n  mucheck replay examples/two-states/system.aut examples/two-states/a-then-a.mcf examples/two-states/late-read.schedule";
 
-const EXPLAIN_ABOUT: &str = "Tells what a code of a refusal means, and how to mend it";
+const EXPLAIN_ABOUT: &str = "Tells what a code of a refusal means, and how to fix it";
 
 const EXPLAIN_AFTER: &str =
     "The status is 0, or 2 where there is no such code.\n\nExample:\n  mucheck explain A2";

@@ -53,7 +53,7 @@ fn numbered(alloc: Global, counts: &[u32]) -> Result<Vec<Counted>, AllocError>
 /// The labels of a system, the most frequent first, and those that are as frequent in the order of their bytes.
 ///
 /// # Errors
-/// Want of memory, and nothing else.
+/// Out of memory, and nothing else.
 pub(crate) fn ranked_labels(alloc: Global, lts: &Lts) -> Result<Vec<Counted>, AllocError>
     ensures { IfOk result (λ ranked. IsRanking lts.now ranked.items) }
 {

@@ -22,7 +22,7 @@ impl Size {
     /// The size of a game: the sinks, and a vertex for each state with each node.
     ///
     /// # Errors
-    /// Want of memory.
+    /// Out of memory.
     pub(crate) fn of(alloc: Global, system: &Lts, normal: &Normal) -> Result<Size, AllocError> {
         let states = u64::from(system.states());
         let sets = label_sets(alloc, system, normal)?;

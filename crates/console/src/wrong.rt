@@ -5,7 +5,7 @@ use requests::error::MuError;
 use requests::texts::parse_front;
 use std::alloc::{AllocError, Global};
 
-/// What is told of a text, where it shows something, and want of memory.
+/// What is told of a text, where it shows something, and a lack of memory.
 pub type Explanation = Result<Option<String>, AllocError>;
 
 /// Tokens that begin a formula, a step, or a name alone, and what they stand for.

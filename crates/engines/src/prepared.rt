@@ -44,7 +44,7 @@ pub struct Prepared {
 /// Makes what is wanted.
 ///
 /// # Errors
-/// E5 and U4 for want of memory.
+/// E5 and U4 where memory runs out.
 pub(crate) fn prepare(alloc: Global, found: &Findings, wanted: Wanted) -> Result<Prepared, MuError>
     requires { AreFindings found.now }
     ensures prepared { IfOk result (ArePrepared found.now) }
@@ -65,8 +65,10 @@ fn prepare_beside(
     requires found { AreFindings found.now }
     requires pair { IfSome pair (IsPairOf (arc_value found.now.solution.game)) }
     requires evidence { is_some pair ≡ wanted.evidence }
+
     ensures prepared { IfOk result (ArePrepared found.now) }
     ensures wanted { IfOk result (λ prepared. prepared.wanted ≡ wanted) }
+
     ensures refusal { IfErr result (IsUnprepared wanted) }
 {
     let shown = shown_where(alloc, found, wanted.witness, &pair)?;
@@ -115,8 +117,10 @@ fn shown_where(
 ) -> Result<Option<WitnessText>, MuError>
     requires found { AreFindings found.now }
     requires pair { IfSome pair.now (IsPairOf (arc_value found.now.solution.game)) }
+
     ensures shown { IfOk result (λ shown. IfSome shown (λ x. AreShown found.now x.part.items)) }
     ensures form { IfOk result (λ shown. option_map (λ (x : WitnessText). x.form) shown ≡ form) }
+
     ensures refusal { IfErr result (λ e. IsTrue (is_some form) × IsUnshown e) }
 {
     let Some(form) = form else {

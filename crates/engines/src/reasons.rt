@@ -169,6 +169,7 @@ fn tell_by(
     requires same { evidence.now.game ≡ game.now }
     requires good { IsGood game.now evidence.now.evidence }
     requires root { IsTrue (has_entry evidence.now.evidence (root_of system.now.system (normal_nodes form.now))) }
+
     ensures { IfOk result (IsToldBy system.now.system (normal_nodes form.now) game.now evidence.now.evidence limit) }
 {
     let root = root_vertex(system, form, game);

@@ -48,7 +48,7 @@ HasEvidenceFault g text fault place =
 abbrev pub HasEvidenceFaultAt : Game → List ℕ → EvidenceFault × ℕ → Type 0
 HasEvidenceFaultAt g text told = HasEvidenceFault g text told.0 told.1
 
--- the fault that an error tells, and its line: none for a failed read, or for want of memory
+-- the fault that an error tells, and its line: none for a failed read, or where memory runs out
 abbrev pub evidence_fault_of : EvidenceError → Option (EvidenceFault × ℕ)
 evidence_fault_of (Fault fault line) = Some (fault, line)
 evidence_fault_of Read = None

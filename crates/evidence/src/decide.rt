@@ -21,7 +21,7 @@ use std::alloc::{AllocError, Global};
 /// A mark for each vertex that Even's evidence has.
 ///
 /// # Errors
-/// Want of memory.
+/// Out of memory.
 pub fn set_marks(alloc: Global, game: &Game, even: &Evidence) -> Result<Vec<bool>, AllocError>
     requires same { even.now.game ≡ game.now }
     ensures { IfOk result (λ marks. MarksOf (length game.now.vertices) marks.items (λ v. IsTrue (has even.now.evidence v))) }
@@ -34,7 +34,7 @@ pub fn set_marks(alloc: Global, game: &Game, even: &Evidence) -> Result<Vec<bool
     Ok(marks)
 }
 
-/// A mark for each vertex, true where Even wins it, by evidence that is guessed. There is none where there is no such evidence, or for want of memory.
+/// A mark for each vertex, true where Even wins it, by evidence that is guessed. There is none where there is no such evidence, or where memory runs out.
 pub fn certified_winners(alloc: Global, game: &Game, gauge: Option<&Gauge>) -> Option<Vec<bool>>
     ensures { IfSome result (λ marks. MarksOf (length game.now.vertices) marks.items (Wins game.now)) }
 {
@@ -73,7 +73,7 @@ fn are_small(game: &Game, pair: &EvidencePair) -> bool
 }
 
 /// Evidence of all that each player wins, by a guess of winners, moves and ranks. There is none where the checker refuses the evidence that is
-/// made of the guess, where a count is too great for its text, where the guess took too long, or for want of memory. A gauge shows how far the guess has
+/// made of the guess, where a count is too great for its text, where the guess took too long, or where memory runs out. A gauge shows how far the guess has
 /// come.
 pub fn certified_evidence(alloc: Global, game: &Game, gauge: Option<&Gauge>) -> Option<EvidencePair>
     ensures { IfSome result (AreFull game.now) }

@@ -40,7 +40,7 @@ impl Draft {
     /// That the player wins nothing yet, with all memory that entries will need.
     ///
     /// # Errors
-    /// Want of memory, and nothing else.
+    /// Out of memory, and nothing else.
     pub fn new(alloc: Global, game: &Game, player: Player) -> Result<Self, Memory>
         ensures { IfOk result (λ e. e ≡ empty game.now player) }
     {

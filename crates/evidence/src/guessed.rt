@@ -38,7 +38,7 @@ fn evidence_of(
     Ok(draft.into_evidence())
 }
 
-// Evidence of all that each player is guessed to win. There is none where the guess took too long, or for want of memory.
+// Evidence of all that each player is guessed to win. There is none where the guess took too long, or where memory runs out.
 pub(crate) fn guessed_pair(
     alloc: Global,
     game: &Game,

@@ -53,14 +53,16 @@ fn entries_of(alloc: Global, game: &Game, settled: &Settled) -> Result<Entries, 
 /// of the successors with the least `prog`.
 ///
 /// # Errors
-/// Want of memory, E5, and nothing else.
+/// Out of memory, E5, and nothing else.
 pub fn even_evidence(
     alloc: Global,
     game: &Game,
     settled: &Settled,
 ) -> Result<Evidence, EvidenceError>
     requires { settled.now.game ≡ game.now }
+
     ensures game { IfOk result (λ e. e.game ≡ game.now) }
+
     ensures memory { IsOkUnless result EvidenceError.Memory }
     ensures even { IfOk result (λ e. IsEvenOf game.now e.evidence) }
     ensures good { IfOk result (λ e. IsGood game.now e.evidence) }
@@ -75,6 +77,7 @@ pub fn even_evidence(
 fn for_odd(game: &Game, entries: Entries) -> Evidence
     requires few { greatest game.now ≤ GREATEST_PRIORITY }
     requires even { IsEvenOf (dual_of game.now) (record { player = Player.Even; entries = entries.entries }) }
+
     ensures game { result.game ≡ game.now }
     ensures odd { IsOddOf game.now result.evidence }
     ensures good { IsGood game.now result.evidence }
@@ -87,7 +90,7 @@ fn for_odd(game: &Game, entries: Entries) -> Evidence
 /// Evidence of all that Odd wins: Even's of the dual game, by its least progress table, read for Odd.
 ///
 /// # Errors
-/// Want of memory, E5, and nothing else.
+/// Out of memory, E5, and nothing else.
 pub fn odd_evidence_of(
     alloc: Global,
     game: &Game,
@@ -97,7 +100,9 @@ pub fn odd_evidence_of(
     requires few { greatest game.now ≤ GREATEST_PRIORITY }
     requires turned { turned.now ≡ dual_of game.now }
     requires settled { settled.now.game ≡ turned.now }
+
     ensures game { IfOk result (λ e. e.game ≡ game.now) }
+
     ensures memory { IsOkUnless result EvidenceError.Memory }
     ensures odd { IfOk result (λ e. IsOddOf game.now e.evidence) }
     ensures good { IfOk result (λ e. IsGood game.now e.evidence) }
@@ -143,7 +148,7 @@ fn solve_dual(
 /// Evidence of all that Odd wins in a game that is solved: Even's of the dual game, which is lifted from top where Even wins the game itself, read for Odd.
 ///
 /// # Errors
-/// Want of memory, E5, and nothing else.
+/// Out of memory, E5, and nothing else.
 pub fn odd_evidence_from(
     alloc: Global,
     game: &Game,
@@ -151,7 +156,9 @@ pub fn odd_evidence_from(
 ) -> Result<Evidence, EvidenceError>
     requires few { greatest game.now ≤ GREATEST_PRIORITY }
     requires settled { settled.now.game ≡ game.now }
+
     ensures game { IfOk result (λ e. e.game ≡ game.now) }
+
     ensures memory { IsOkUnless result EvidenceError.Memory }
     ensures odd { IfOk result (λ e. IsOddOf game.now e.evidence) }
     ensures good { IfOk result (λ e. IsGood game.now e.evidence) }
@@ -167,10 +174,12 @@ pub fn odd_evidence_from(
 /// Evidence of all that Odd wins: Even's of the dual game, which is solved by lifting, read for Odd.
 ///
 /// # Errors
-/// Want of memory, E5, and nothing else.
+/// Out of memory, E5, and nothing else.
 pub fn odd_evidence(alloc: Global, game: &Game) -> Result<Evidence, EvidenceError>
     requires { greatest game.now ≤ GREATEST_PRIORITY }
+
     ensures game { IfOk result (λ e. e.game ≡ game.now) }
+
     ensures memory { IsOkUnless result EvidenceError.Memory }
     ensures odd { IfOk result (λ e. IsOddOf game.now e.evidence) }
     ensures good { IfOk result (λ e. IsGood game.now e.evidence) }

@@ -86,6 +86,7 @@ fn add_short(line: &[u8], counts: &mut [u32], entries: &mut Entries) -> Result<(
     requires width { length counts.old ≡ entries.old.width }
     requires few { length entries.old.entries ≤ MOST_VERTICES }
     requires narrow { entries.old.width ≤ MOST_COUNTS }
+
     ensures added { OnOk result (IsAdded line.now entries.old entries.new) }
     ensures whole { OnOk result ((whole : List ℕ) → line.now ≡ take LONGEST_LINE (short whole) → IsAdded whole entries.old entries.new) }
     ensures fault { IfErr result (λ fault. (whole : List ℕ) → line.now ≡ take LONGEST_LINE (short whole) → IsWrongLine entries.old whole fault) }
@@ -152,8 +153,10 @@ fn read_lines<B: Blocks>(
     requires width { length counts.old ≡ entries.old.width }
     requires few { length entries.old.entries ≤ MOST_VERTICES }
     requires narrow { entries.old.width ≤ MOST_COUNTS }
+
     ensures lines { OnOk result (AreEntriesRead (length entries.old.entries) entries.old.width (B.remaining reader.old) entries.new.entries) }
     ensures fault { IfErr result (RefusesEvidence (B.remaining reader.old) (HasEvidenceRestFault (length entries.old.entries) entries.old.width)) }
+
     ensures cause { IfErr result (HasCause B.can_fail errors.Read) }
 {
     let mut good = 0;
@@ -226,7 +229,7 @@ fn read_text<B: Blocks>(
 /// 8,192 bytes, and of a line that goes on in the next block 256 bytes at most, beside the entries.
 ///
 /// # Errors
-/// The first faulty line decides. A text is also refused where a read fails, or for want of memory.
+/// The first faulty line decides. A text is also refused where a read fails, or where memory runs out.
 pub fn read_evidence<R: Source + Drop>(
     alloc: Global,
     reader: R,

@@ -55,7 +55,7 @@ IsTreeRefusal s places (refused.Fault other offset) =
     × (slice_get places first ≡ Some offset)
 IsTreeRefusal s places refused.Memory = ⊥
 
--- the fault that an error tells, with its place: none for want of memory
+-- the fault that an error tells, with its place: none where memory runs out
 abbrev pub formula_fault_of : FormulaError → Option (FormulaFault × ℕ)
 formula_fault_of (refused.Fault fault offset) = Some (fault, offset)
 formula_fault_of refused.Memory = None

@@ -16,7 +16,7 @@ use text::Memory;
 /// `false` and `tau` are neither.
 ///
 /// # Errors
-/// Want of memory; and where the bytes are no tokens, so that they are no formula's text.
+/// Out of memory; and where the bytes are no tokens, so that they are no formula's text.
 pub fn first_absent(alloc: Global, system: &Lts, text: &[u8]) -> Result<Option<usize>, Memory>
     ensures { IfOk result (IsFirstAbsent system.now.system text.now) }
 {

@@ -137,7 +137,7 @@ fn tree(alloc: Global, text: &[u8]) -> Result<State, FormulaError>
 /// The formula of a text, in the syntax of mCRL2's mcf without data.
 ///
 /// # Errors
-/// The fault that decides. A text without one is refused for want of memory alone.
+/// The fault that decides. A text without one is refused only where memory runs out.
 pub fn parse(alloc: Global, text: &[u8]) -> Result<Closed, FormulaError>
     ensures { Reads Spells SpellsWithin (λ bytes f. SpellsWithin bytes f × IsAdmitted f) HasFormulaFaultAt closed_formula formula_fault_of (Some text.now) result }
 {

@@ -206,7 +206,7 @@ fn note_formula<'a>(
 /// multi-actions and quoted atoms. `true`, `false` and `tau` are none.
 ///
 /// # Errors
-/// Want of memory, and nothing else.
+/// Out of memory, and nothing else.
 pub fn strange_words<'a>(
     alloc: Global,
     system: &Lts,

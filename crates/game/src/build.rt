@@ -76,7 +76,7 @@ fn pick(
 /// The transitions of a state, by target.
 ///
 /// # Errors
-/// Want of memory, and nothing else.
+/// Out of memory, and nothing else.
 pub fn by_target(row: &mut Vec<Transition>, lts: &Lts, state: u32) -> Result<(), AllocError>
     requires { state < lts.now.system.states }
     ensures { OnOk result (IsRowOf lts.now state row.new.items) }
@@ -113,7 +113,7 @@ pub fn node_owner(node: &Node) -> Player
 /// The list is lent for its successors.
 ///
 /// # Errors
-/// Want of memory, and nothing else.
+/// Out of memory, and nothing else.
 pub fn vertex_in<'a>(
     reached: &'a mut Vec<u32>,
     row: &[Transition],
@@ -126,6 +126,7 @@ pub fn vertex_in<'a>(
     requires node { IsNode nodes (node_of node.now) }
     requires state { state < 1000000 }
     requires inside { AllByRecursion (λ t. t.target < 1000000) row.now }
+
     ensures { IfOk result (λ x. lent_vertex x ≡ vertex_by nodes state (picks (is_in set.now) 0 row.now) (node_of node.now)) }
 {
     let base = 2 + state * nodes;
@@ -162,6 +163,7 @@ fn push_node(
     requires node { IsNode nodes (node_of node.now) }
     requires state { state < 1000000 }
     requires inside { AllByRecursion (λ t. t.target < 1000000) row.now }
+
     ensures { OnOk result (builder.new ≡ builder.old ++ vertex_by nodes state (picks (is_in set.now) 0 row.now) (node_of node.now) ∷ []) }
 {
     let vertex = vertex_in(reached, row, set, nodes, state, node)?;
@@ -182,6 +184,7 @@ fn push_state(
     requires sets { AreSets lts.now.labels (normal_nodes form.now) (map (λ set. set.items) sets.now) }
     requires count { length sets.now ≡ length (normal_nodes form.now) }
     requires room { length builder.old + length (normal_nodes form.now) ≤ MOST_VERTICES }
+
     ensures { OnOk result (builder.new ≡ builder.old ++ map (vertex_of lts.now.system (length (normal_nodes form.now)) state) (normal_nodes form.now)) }
 {
     form.known();
@@ -220,6 +223,7 @@ fn push_states(
     requires sets { AreSets lts.now.labels (normal_nodes form.now) (map (λ set. set.items) sets.now) }
     requires count { length sets.now ≡ length (normal_nodes form.now) }
     requires room { length builder.old + (end - first) * length (normal_nodes form.now) ≤ MOST_VERTICES }
+
     ensures { OnOk result (builder.new ≡ builder.old ++ rows lts.now.system (normal_nodes form.now) (range_with_len first (end - first))) }
 {
     let mut row = Vec::new(alloc);
@@ -340,6 +344,7 @@ fn split(
     requires sets { AreSets lts.now.labels (normal_nodes form.now) (map (λ set. set.items) sets.now) }
     requires count { length sets.now ≡ length (normal_nodes form.now) }
     requires few { 2 + lts.now.system.states * length (normal_nodes form.now) ≤ MOST_VERTICES }
+
     ensures { IfOk result (λ builder. builder ≡ (arena lts.now.system (normal_nodes form.now)).vertices) }
 {
     let states = lts.states();
@@ -357,7 +362,7 @@ fn split(
 /// of a large game, each those of some states.
 ///
 /// # Errors
-/// B1 where there would be too many vertices, told before any is made; else want of memory, B2.
+/// B1 where there would be too many vertices, told before any is made; else out of memory, B2.
 pub fn build(
     rt: &(impl Threads + Sync),
     alloc: Global,
@@ -414,9 +419,11 @@ pub fn build_split(
     gauge: Option<&Gauge>,
 ) -> Result<Game, BuildError>
     requires { 1 ≤ ranges }
+
     ensures game { IfOk result (λ g. g ≡ arena lts.now.system (normal_nodes form.now)) }
     ensures within { OnOk result (2 + lts.now.system.states * length (normal_nodes form.now) ≤ MOST_VERTICES) }
     ensures low { IfOk result (λ g. greatest g ≤ GREATEST_PRIORITY) }
+
     ensures refused { IfErr result (HasBuildRefusal lts.now.system.states (length (normal_nodes form.now))) }
 {
     form.known();

@@ -20,7 +20,7 @@ pub fn greatest_priority(game: &Game) -> u32
 /// vertices have no names.
 ///
 /// # Errors
-/// Want of memory, B2, and nothing else.
+/// Out of memory, B2, and nothing else.
 pub fn dual(alloc: Global, game: &Game) -> Result<Game, BuildError>
     requires { greatest game.now ≤ GREATEST_PRIORITY }
     ensures game { IfOk result (λ g. g ≡ dual_of game.now) }

@@ -247,7 +247,7 @@ impl GameBuilder {
     /// One more vertex. What makes a game of vertices is tested at the end.
     ///
     /// # Errors
-    /// Want of memory, and nothing else; the vertices are what they were.
+    /// Out of memory, and nothing else; the vertices are what they were.
     pub fn push(
         &mut self,
         owner: Player,

@@ -287,6 +287,7 @@ fn lengthened<'a>(
     requires onward { MayGoOn left }
     requires sign { suffix_row suffix ≤ level }
     requires first { bare_tokens left.rest.now ≡ suffix_token suffix ∷ bare_tokens rest.now }
+
     ensures { RegularFrom level room.depth room.parens left.entry result }
 {
     match suffix {
@@ -307,6 +308,7 @@ fn repeated<'a>(
     requires onward { MayGoOn left }
     requires sign { 5 ≤ level }
     requires first { bare_tokens left.rest.now ≡ repeat_token repeat ∷ bare_tokens rest.now }
+
     ensures { RegularFrom level room.depth room.parens left.entry result }
 {
     let _ = room.below(left.rest, left.height)?;
@@ -328,6 +330,7 @@ fn joined<'a>(
     requires onward { MayGoOn left }
     requires sign { infix_row sign ≤ level }
     requires first { bare_tokens left.rest.now ≡ infix_token sign ∷ bare_tokens rest.now }
+
     ensures { RegularFrom level room.depth room.parens left.entry result }
 {
     let below = room.below(left.rest, left.height)?;

@@ -82,7 +82,7 @@ fn evidence_of(
 /// vertices: a path into a loop. It has as few transitions as are found. The least progress table says who wins.
 ///
 /// # Errors
-/// Want of memory.
+/// Out of memory.
 pub fn one_way_evidence(
     alloc: Global,
     system: &Lts,
@@ -92,6 +92,7 @@ pub fn one_way_evidence(
 ) -> Result<Option<Evidence>, Memory>
     requires game { game.now ≡ arena system.now.system (normal_nodes normal.now) }
     requires same { settled.now.game ≡ game.now }
+
     ensures game { IfOk result (λ found. IfSome found (λ e. e.game ≡ game.now)) }
     ensures good { IfOk result (λ found. IfSome found (λ e. IsGood game.now e.evidence)) }
     ensures root { IfOk result (λ found. IfSome found (λ e. IsTrue (has_entry e.evidence (root_of system.now.system (normal_nodes normal.now))))) }

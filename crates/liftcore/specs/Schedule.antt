@@ -71,7 +71,7 @@ pub record HasScheduleFault (workers vertices : ℕ) (text : List ℕ) (fault : 
 abbrev pub HasScheduleFaultAt : (workers vertices : ℕ) → List ℕ → ScheduleFault × ℕ → Type 0
 HasScheduleFaultAt workers vertices text told = HasScheduleFault workers vertices text told.0 told.1
 
--- the fault that an error tells, and its line: none for want of memory
+-- the fault that an error tells, and its line: none where memory runs out
 abbrev pub schedule_fault_of : ScheduleError → Option (ScheduleFault × ℕ)
 schedule_fault_of (Fault fault line) = Some (fault, line)
 schedule_fault_of Memory = None

@@ -149,7 +149,7 @@ impl Intake {
 /// is a byte like any other.
 ///
 /// # Errors
-/// The first faulty line decides, and in it first its shape, then the worker, then the vertex. S4 is want of memory.
+/// The first faulty line decides, and in it first its shape, then the worker, then the vertex. S4 is out of memory.
 pub fn read_schedule(
     alloc: Global,
     text: &[u8],
@@ -199,7 +199,7 @@ fn read_text<B: Blocks>(reader: &mut B, mut intake: Intake) -> Result<Vec<Event>
 /// Reads a schedule as [`read_schedule`] does, and keeps no line of its text: of it there is a block of 8,192 bytes, beside the events.
 ///
 /// # Errors
-/// Those of [`read_schedule`]. It is also refused where a read fails, or for want of memory for the block.
+/// Those of [`read_schedule`]. It is also refused where a read fails, or where memory runs out for the block.
 pub fn read_schedule_from<R: Source + Drop>(
     alloc: Global,
     reader: R,

@@ -51,6 +51,7 @@ impl CoreWorker {
         requires seat { IsSeat game.now self.old }
         requires idle { worker_of self.old ≡ Idle }
         requires vertex { v < length game.now.vertices }
+
         ensures seat { IsSeat game.now self.new }
         ensures holds { worker_of self.new ≡ Holding v [] }
     {
@@ -79,6 +80,7 @@ impl CoreWorker {
         requires seat { IsSeat game.now self.old }
         requires unread { IsUnread self.old v place }
         requires below { LiesBelow game.now v value }
+
         ensures seat { IsSeat game.now self.new }
         ensures notes { worker_of self.new ≡ Holding self.old.turn.vertex (with_note (record { vertex = v; value = value }) (notes_of self.old.turn)) }
     {
@@ -115,6 +117,7 @@ impl CoreWorker {
         requires free { self.old.holding ≡ false }
         requires none { members self.old.owed ≡ [] }
         requires within { AllByRecursion (λ t. t < length game.now.vertices) vertices.now }
+
         ensures seat { IsSeat game.now self.new }
         ensures holding { self.new.holding ≡ false }
         ensures owed { AreOwed vertices.now self.new.owed }

@@ -70,7 +70,7 @@ impl Turn {
     /// A turn that may begin. It takes the memory for all that follow.
     ///
     /// # Errors
-    /// Want of memory, and nothing else.
+    /// Out of memory, and nothing else.
     pub fn new(alloc: Global, game: &Game) -> Result<Self, AllocError>
         ensures { IfOk result (λ t. t.game ≡ game.now) }
     {
@@ -113,6 +113,7 @@ impl Turn {
     pub fn note(&mut self, place: usize, value: Measure)
         requires place { place < length (successors_read self.old) }
         requires below { LiesBelow self.old.game (slice_index (successors_read self.old) place) value }
+
         ensures game { self.new.game ≡ self.old.game }
         ensures vertex { self.new.vertex ≡ self.old.vertex }
         ensures marks { self.new.marks ≡ slice_set self.old.marks place true }
@@ -135,6 +136,7 @@ impl Turn {
         requires same { self.now.game ≡ game.now }
         requires vertex { self.now.vertex < length game.now.vertices }
         requires whole { AreRead self.now (length (successors_read self.now)) }
+
         ensures value { IsDemandOf game.now self.now.vertex (values_of self.now) result }
         ensures below { LiesBelow game.now self.now.vertex result }
     {

@@ -15,7 +15,7 @@ use Rattle.systems.specs.System.{Arrow, IsArrow}
 use Rattle.lts.specs.Gathered.{Gathers}
 use Rattle.lts.specs.Aut.{IsAutHeader, IsTransition, AutBodyFault}
 
--- the fault that an error tells, and its line: none for a failed read, or for want of memory
+-- the fault that an error tells, and its line: none for a failed read, or where memory runs out
 abbrev pub aut_fault_of : AutError → Option (AutFault × ℕ)
 aut_fault_of (Fault fault line) = Some (fault, line)
 aut_fault_of Read = None

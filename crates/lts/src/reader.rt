@@ -97,6 +97,7 @@ fn read_row<B: Blocks, S: BuildHasher>(
     requires due { good < found.transitions }
     requires admitted { IsWithinLimits found }
     requires labels { length rows.old.labels.keys ≤ good }
+
     ensures row { OnOk result ((old : Option (List ℕ)) → ArrowsSoFar found.states good old (B.remaining reader.old)
         (texts rows.old.labels.keys) rows.old.transitions.items
         → ArrowsSoFar found.states (good + 1) old (B.remaining reader.new) (texts rows.new.labels.keys) rows.new.transitions.items) }
@@ -104,6 +105,7 @@ fn read_row<B: Blocks, S: BuildHasher>(
     ensures fault { IfErr result (λ e. (old : Option (List ℕ))
         → ArrowsSoFar found.states good old (B.remaining reader.old) (texts rows.old.labels.keys) rows.old.transitions.items
         → RefusesAut old (HasAutRestFault found) e) }
+
     ensures cause { IfErr result (HasCause B.can_fail errors.Read) }
 {
     let line = u64::from(good) + 2;
@@ -152,6 +154,7 @@ fn read_rows<B: Blocks, S: BuildHasher>(
     requires admitted { IsWithinLimits found }
     requires none { Gathers (texts rows.old.labels.keys) rows.old.transitions.items [] }
     requires unlabelled { length rows.old.labels.keys ≡ 0 }
+
     ensures rows { OnOk result ((arrows : List Arrow)
         × Gathers (texts rows.new.labels.keys) rows.new.transitions.items arrows
         × AllByRecursion (IsArrow found.states) arrows
@@ -159,6 +162,7 @@ fn read_rows<B: Blocks, S: BuildHasher>(
     ensures within { OnOk result (length rows.new.transitions.items ≤ MOST_TRANSITIONS) }
     ensures labels { OnOk result (length rows.new.labels.keys ≤ MOST_TRANSITIONS) }
     ensures fault { IfErr result (RefusesAut (B.remaining reader.old) (HasAutRestFault found)) }
+
     ensures cause { IfErr result (HasCause B.can_fail errors.Read) }
 {
     for good in 0..found.transitions {
@@ -178,11 +182,13 @@ fn read_rest<B: Blocks, S: BuildHasher>(
     requires admitted { IsWithinLimits found }
     requires none { Gathers (texts rows.old.labels.keys) rows.old.transitions.items [] }
     requires unlabelled { length rows.old.labels.keys ≡ 0 }
+
     ensures rest { IfOk result (λ l. (arrows : List Arrow)
         × AllByRecursion (IsArrow found.states) arrows
         × IfKnown (B.remaining reader.old) (B.remaining reader.new) (AreTransitions found arrows)
         × (l.system ≡ record { states = found.states; initial = found.initial; arrows = set_of arrows })) }
     ensures fault { IfErr result (RefusesAut (B.remaining reader.old) (HasAutRestFault found)) }
+
     ensures cause { IfErr result (HasCause B.can_fail errors.Read) }
 {
     read_rows(alloc, reader, kept, found, rows)?;
@@ -211,7 +217,7 @@ fn read_text<B: Blocks, S: BuildHasher + Drop>(
 /// system that grows.
 ///
 /// # Errors
-/// The first faulty line decides. A text is also refused where a read fails, or for want of memory.
+/// The first faulty line decides. A text is also refused where a read fails, or where memory runs out.
 pub fn read_aut<R: Source + Drop, S: BuildHasher + Drop>(
     alloc: Global,
     hasher: S,

@@ -146,6 +146,7 @@ fn marks_of_both<'x, 'a>(
     requires environment { FitsEnvironment lts.now.system.states environment.now }
     requires left { IsRight lts.now.system left.now }
     requires right { IsRight lts.now.system right.now }
+
     ensures one { IfOk result (λ found. MarksOf lts.now.system.states found.0.items (mean lts.now.system (formula_in left.now) (sets_of environment.now))) }
     ensures other { IfOk result (λ found. MarksOf lts.now.system.states found.1.items (mean lts.now.system (formula_in right.now) (sets_of environment.now))) }
 {
@@ -157,7 +158,7 @@ fn marks_of_both<'x, 'a>(
 /// A mark for each state, true where the formula holds, by sets of states alone (Kozen 1983).
 ///
 /// # Errors
-/// Want of memory, and nothing else.
+/// Out of memory, and nothing else.
 pub fn plain_states(alloc: Global, lts: &Lts, formula: &Closed) -> Result<Vec<bool>, Memory>
     ensures meaning { IfOk result (λ marks. MarksOf lts.now.system.states marks.items (Satisfies lts.now.system (closed_formula formula.now))) }
     ensures least { IfOk result (λ marks. (name : List ℕ) (f : Formula) → closed_formula formula.now ≡ Mu name f → IsLeast lts.now.system name f marks.items) }

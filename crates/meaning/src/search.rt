@@ -64,6 +64,7 @@ fn visit(
     requires state { state < length found.old.items }
     requires waiting { All (λ t. t < length found.old.items) waiting.old.items }
     requires known { (s : ℕ) → Contains waiting.old.items s → marked found.old.items s }
+
     ensures count { OnOk result (length found.new.items ≡ length found.old.items) }
     ensures inside { OnOk result (All (λ t. t < length found.old.items) waiting.new.items) }
     ensures known { OnOk result ((s : ℕ) → Contains waiting.new.items s → marked found.new.items s) }

@@ -17,6 +17,7 @@ use std::cmp::Ordering;
 fn last_with_room(bounds: &[u32], counts: &[u32], kept: usize) -> Option<usize>
     requires bounds { kept ≤ length bounds.now }
     requires counts { kept ≤ length counts.now }
+
     ensures none { IfNone result (AreAtBounds bounds.now counts.now 0 kept) }
     ensures inside { IfSome result (λ k. k < kept) }
     ensures room { IfSome result (λ k. slice_index counts.now k < slice_index bounds.now k) }

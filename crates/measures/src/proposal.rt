@@ -177,6 +177,7 @@ impl Proposals {
         requires digit { digit ≤ at.now.width }
         requires few { at.now.width ≤ COMPONENTS }
         requires next { next < length self.now.numbers.items }
+
         ensures { (g : Game) → length (components g) ≡ at.now.width
             → IsTrue result → IsReason (proposal_in at.now.player self.now g) digit at.now.priority at.now.v next }
     {
@@ -265,6 +266,7 @@ impl Proposals {
         requires digit { digit ≤ at.now.width }
         requires few { at.now.width ≤ COMPONENTS }
         requires inside { AllByRecursion (λ t. t < length self.now.numbers.items) successors.now }
+
         ensures { (g : Game) → length (components g) ≡ at.now.width
             → IsTrue result → AreEnough asker (IsReason (proposal_in at.now.player self.now g) digit at.now.priority at.now.v) successors.now }
     {
@@ -283,6 +285,7 @@ impl Proposals {
         requires layout { at.now.own.layout.now ≡ layout_of at.now.player self.now }
         requires few { at.now.width ≤ COMPONENTS }
         requires inside { AllByRecursion (λ t. t < length self.now.numbers.items) successors.now }
+
         ensures { (g : Game) → vertex_at g at.now.v ≡ Some record { owner = owner; priority = at.now.priority; successors = successors.now }
             → length (components g) ≡ at.now.width
             → IsTrue result → (digit : ℕ) → digit ≤ at.now.width → HasReasonsFor (proposal_in at.now.player self.now g) digit at.now.v }

@@ -71,6 +71,7 @@ pub fn top_rank(game: &Game) -> Option<u64>
 pub fn rank(game: &Game, m: &Measure) -> u64
     requires few { height game.now < RANK_LIMIT }
     requires measure { IsMeasure game.now m.now }
+
     ensures value { result ≡ rank_of game.now m.now }
     ensures lesser { IsRank game.now m.now result }
     ensures order { (other : Measure) → IsMeasure game.now other → (IsBelow m.now other ↔ (result < rank_of game.now other)) }
@@ -86,6 +87,7 @@ pub fn rank(game: &Game, m: &Measure) -> u64
 pub fn of_rank(game: &Game, rank: u64) -> Measure
     requires few { height game.now < RANK_LIMIT }
     requires rank { rank ≤ height game.now }
+
     ensures value { result ≡ measure_of_rank game.now rank }
     ensures measure { IsMeasure game.now result }
     ensures rank { rank_of game.now result ≡ rank }

@@ -39,7 +39,7 @@ impl MeasureRows {
     /// So many measures whose counts are zero.
     ///
     /// # Errors
-    /// Want of memory, and nothing else.
+    /// Out of memory, and nothing else.
     #[tactic(auto, using(crate::proofs::Stored::rows_zeros))]
     pub fn zeros(alloc: Global, length: usize, width: usize) -> Result<Self, AllocError>
         requires vertices { length ≤ MOST_VERTICES }

@@ -88,7 +88,7 @@ pub fn even_wins(settled: &Settled, v: u32) -> bool
 /// The least progress table of a game, on one thread.
 ///
 /// # Errors
-/// Want of memory for the table itself.
+/// Out of memory for the table itself.
 pub fn solve_one(alloc: Global, game: &Game) -> Result<Settled, Memory>
     ensures game { IfOk result (λ s. s.game ≡ game.now) }
     ensures least { IfOk result (λ s. IsLeastTable game.now s.values) }

@@ -72,7 +72,7 @@ pub fn opening_value(game: &Game, v: u32) -> Measure
 /// The table that lifting begins with: top at a vertex of odd priority whose only successor is itself, and else zeros.
 ///
 /// # Errors
-/// Want of memory, and nothing else.
+/// Out of memory, and nothing else.
 pub fn opening(alloc: Global, game: &Game) -> Result<PlainTable, Memory>
     ensures game { IfOk result (λ t. t.game ≡ game.now) }
     ensures values { IfOk result (λ t. t.values ≡ opening_of game.now) }
@@ -133,6 +133,7 @@ impl PlainTable {
     pub fn raise(&mut self, v: u32, m: &Measure)
         requires vertex { v < length self.old.game.vertices }
         requires below { LiesBelow self.old.game v m.now }
+
         ensures game { self.new.game ≡ self.old.game }
         ensures values { self.new.values ≡ slice_set self.old.values v (greater_of (value_at self.old.values v) m.now) }
         ensures kept { LiesUnder self.old.values self.new.values }
@@ -242,7 +243,7 @@ impl Settled {
     /// The least progress table that is proposed for a player, in the player's game.
     ///
     /// # Errors
-    /// Want of memory, and nothing else.
+    /// Out of memory, and nothing else.
     pub fn of_proposals(
         alloc: Global,
         game: &Game,

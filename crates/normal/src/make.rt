@@ -29,6 +29,7 @@ pub fn normal(alloc: Global, formula: &Closed) -> Result<Normal, NormalError>
     ensures depth { IfOk result (λ n. normal_depth n ≡ depth (normal_form (closed_formula formula.now))) }
     ensures count { OnOk result (count_of (closed_formula formula.now) ≤ MOST_NODES) }
     ensures low { OnOk result (greatest_node_priority (nodes (closed_formula formula.now)) ≤ GREATEST_PRIORITY) }
+
     ensures refused { IfErr result (HasRefusal (closed_formula formula.now)) }
 {
     normal_with(alloc, formula, Priorities::Nested)
@@ -38,7 +39,7 @@ pub fn normal(alloc: Global, formula: &Closed) -> Result<Normal, NormalError>
 ///
 /// # Errors
 /// N1 where the nodes are too many, counted before any is made; N2 where they are not and a priority is too great, found
-/// without memory and before any node is made; N3, want of memory, only where neither stands.
+/// without memory and before any node is made; N3, out of memory, only where neither stands.
 pub fn normal_with(
     alloc: Global,
     formula: &Closed,
@@ -48,6 +49,7 @@ pub fn normal_with(
     ensures depth { IfOk result (λ n. normal_depth n ≡ depth (normal_form (closed_formula formula.now))) }
     ensures count { OnOk result (count_of (closed_formula formula.now) ≤ MOST_NODES) }
     ensures low { OnOk result (greatest_node_priority (nodes_with priorities (closed_formula formula.now)) ≤ GREATEST_PRIORITY) }
+
     ensures refused { IfErr result (HasRefusalWith priorities (closed_formula formula.now)) }
 {
     let tree = formula.tree();

@@ -196,6 +196,7 @@ impl Survey {
     // A node that binds nothing.
     fn leaf(&mut self, place: PartPlace) -> Summary
         requires { place.at < MOST_NODES }
+
         ensures priorities { self.new.priorities ≡ slice_set self.old.priorities place.at 0 }
         ensures opens { self.new.opens ≡ self.old.opens }
         ensures rule { self.new.rule ≡ self.old.rule }
@@ -387,6 +388,7 @@ impl Survey {
         requires nested { inside.nested < 2 ^ 31 }
         requires from_least { inside.from_least < 2 ^ 31 }
         requires from_greatest { inside.from_greatest < 2 ^ 31 }
+
         ensures own { slice_index self.new.priorities place.at ≡ chosen self.old.rule flag inside.nested (open_at self.old.opens place.level).above }
         ensures others { (k : ℕ) → k ≢ place.at → slice_index self.new.priorities k ≡ slice_index self.old.priorities k }
         ensures opens { (i : ℕ) → i < place.level → open_at self.new.opens i

@@ -25,7 +25,7 @@ abbrev pub pg_unread : ReadFault → PgError
 pg_unread reads.Read = Read
 pg_unread reads.Memory = Memory
 
--- the fault that an error tells, and its line: none for a failed read, or for want of memory
+-- the fault that an error tells, and its line: none for a failed read, or where memory runs out
 abbrev pub pg_fault_of : PgError → Option (PgFault × ℕ)
 pg_fault_of (Fault fault line) = Some (fault, line)
 pg_fault_of Read = None

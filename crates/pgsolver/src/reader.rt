@@ -79,10 +79,12 @@ fn good_line<B: Blocks>(
 ) -> Result<Head, PgError>
     requires limit { last < MOST_VERTICES }
     requires places { length places.now ≡ last + 1 }
+
     ensures good { IfOk result (λ head. Says last places.now (B.remaining reader.old) (B.remaining reader.new) head targets.new.items) }
     ensures few { OnOk result (vec_len targets.new ≤ MOST_VERTICES) }
     ensures fault { IfErr result (λ e. (before : List VertexLine) → ArePlaces last before places.now
         → TellsFault last before (B.remaining reader.old) place e) }
+
     ensures cause { IfErr result (HasCause B.can_fail errors.Read) }
 {
     let Some(head) = vertex(reader, kept, targets)? else {
@@ -108,12 +110,14 @@ fn read_row<B: Blocks>(
     requires due { good ≤ last }
     requires count { length rows.old.vertices ≡ good }
     requires places { vec_len rows.old.places ≡ last + 1 }
+
     ensures row { OnOk result ((old : Option (List ℕ)) → LinesSoFar last good old (B.remaining reader.old) rows.old.vertices rows.old.places.items
         → LinesSoFar last (good + 1) old (B.remaining reader.new) rows.new.vertices rows.new.places.items) }
     ensures count { OnOk result (length rows.new.vertices ≡ good + 1) }
     ensures places { OnOk result (vec_len rows.new.places ≡ last + 1) }
     ensures fault { IfErr result (λ e. (old : Option (List ℕ)) → LinesSoFar last good old (B.remaining reader.old) rows.old.vertices rows.old.places.items
         → RefusesPg old (HasPgRestFault last) e) }
+
     ensures cause { IfErr result (HasCause B.can_fail errors.Read) }
 {
     let place = u64::from(good) + 2;
@@ -160,11 +164,13 @@ fn read_rows<B: Blocks>(
     requires none { rows.old.vertices ≡ [] }
     requires empty { (v : ℕ) → slice_index_or rows.old.places.items v None ≡ None }
     requires places { vec_len rows.old.places ≡ last + 1 }
+
     ensures all { OnOk result (IfKnown (B.remaining reader.old) (B.remaining reader.new) (AreAll last rows.new.vertices rows.new.places.items)) }
     ensures game { OnOk result (IsGame (record { vertices = rows.new.vertices; named = None })) }
     ensures filled { OnOk result (AreFilled (length rows.new.vertices) rows.new.places.items) }
     ensures count { OnOk result (vec_len rows.new.places ≡ length rows.new.vertices) }
     ensures fault { IfErr result (RefusesPg (B.remaining reader.old) (HasPgRestFault last)) }
+
     ensures cause { IfErr result (HasCause B.can_fail errors.Read) }
 {
     for good in 0..last + 1 {
@@ -193,7 +199,7 @@ fn read_text<B: Blocks>(alloc: Global, reader: &mut B) -> Result<Game, PgError>
 /// each vertex; where the lines don't stand in order, the vertices once more.
 ///
 /// # Errors
-/// The first faulty line decides. A text is also refused where a read fails, or for want of memory.
+/// The first faulty line decides. A text is also refused where a read fails, or where memory runs out.
 pub fn read_game<R: Source + Drop>(alloc: Global, reader: R) -> Result<Game, PgError>
     ensures reads { Reads IsGameText IsGameText IsGameText HasPgFaultAt (λ g. g) pg_fault_of (R.remaining reader) result }
     ensures cause { IfErr result (HasCause R.can_fail errors.Read) }

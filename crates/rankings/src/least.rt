@@ -199,6 +199,7 @@ fn tested_moves(
 ) -> Result<Option<Vec<u32>>, AllocError>
     requires few { 2 + lts.now.system.states * length (normal_nodes form.now) ≤ MOST_VERTICES }
     requires long { length proposals.now.numbers.items ≡ 2 + lts.now.system.states * length (normal_nodes form.now) }
+
     ensures even { IfOk result (λ found. IfSome found (λ _. IsLeastTable (arena lts.now.system (normal_nodes form.now)) (values_of Even proposals.now))) }
     ensures odd { IfOk result (λ found. IfSome found (λ _. IsLeastTable (dual (arena lts.now.system (normal_nodes form.now))) (values_of Odd proposals.now))) }
     ensures moves { IfOk result (λ found. IfSome found (λ moves. AreWinnersMoves proposals.now (arena lts.now.system (normal_nodes form.now)) moves.items)) }
@@ -225,7 +226,7 @@ fn tested_moves(
 }
 
 /// The winners' moves, if proposals are the least progress tables of both players in the arena of a system and a normal form, which isn't stored: Even's of
-/// the arena, and Odd's of its dual. There are none, too, where the arena has too many vertices for a game, and for want of memory. Each vertex is looked at
+/// the arena, and Odd's of its dual. There are none, too, where the arena has too many vertices for a game, and where memory runs out. Each vertex is looked at
 /// once.
 pub fn least_moves(
     alloc: Global,

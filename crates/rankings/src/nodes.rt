@@ -254,6 +254,7 @@ pub(crate) fn is_ranked(
     requires node { IsNode (length sheet.now.nodes) (node_of node.now) }
     requires number { number < length sheet.now.nodes }
     requires set { IsSetFor lts.now.labels (shape_of node.now.kind) set.now }
+
     ensures { IsTrue result → (s : ℕ) → span.first ≤ s → s < span.end
         → IsRanked (ranking_of sheet.now) (cell sheet.now number s) (vertex_of lts.now.system (length sheet.now.nodes) s (node_of node.now)) }
 {

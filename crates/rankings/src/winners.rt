@@ -32,6 +32,7 @@ fn are_ranked(lts: &Lts, form: &Normal, sets: &[Vec<bool>], sheet: &Sheet, span:
     requires count { length sets.now ≡ length (normal_nodes form.now) }
     requires nodes { length sheet.now.nodes ≡ length (normal_nodes form.now) }
     requires states { span.end ≤ lts.now.system.states }
+
     ensures { IsTrue result → AreRanked lts.now (normal_nodes form.now) sheet.now span.first span.end }
 {
     form.known();
@@ -59,6 +60,7 @@ fn are_ranked_by<R: Threads + Sync>(
     requires count { length sets.now ≡ length (normal_nodes form.now) }
     requires nodes { length sheet.now.nodes ≡ length (normal_nodes form.now) }
     requires states { span.end ≤ lts.now.system.states }
+
     ensures { IsTrue result → AreRanked lts.now (normal_nodes form.now) sheet.now span.first span.end }
 {
     if threads <= 1 {
@@ -70,6 +72,7 @@ fn are_ranked_by<R: Threads + Sync>(
         requires count { length sets.now ≡ length (normal_nodes form.now) }
         requires nodes { length sheet.now.nodes ≡ length (normal_nodes form.now) }
         requires states { first.end ≤ lts.now.system.states }
+
         ensures { IsTrue result → AreRanked lts.entry.now (normal_nodes form.entry.now) sheet.entry.now first.first first.end }
     { are_ranked(lts, form, sets, sheet, first) };
     let see_rest = || -> bool
@@ -79,6 +82,7 @@ fn are_ranked_by<R: Threads + Sync>(
         requires count { length sets.now ≡ length (normal_nodes form.now) }
         requires nodes { length sheet.now.nodes ≡ length (normal_nodes form.now) }
         requires states { rest.end ≤ lts.now.system.states }
+
         ensures { IsTrue result → AreRanked lts.entry.now (normal_nodes form.entry.now) sheet.entry.now rest.first rest.end }
     { are_ranked_by(rt, lts, form, sets, sheet, rest, threads - 1) };
     let (is_first, is_rest) = join(rt, see_first, see_rest);
@@ -149,7 +153,7 @@ fn checked_marks<R: Threads + Sync>(
 }
 
 /// A mark for each state, true where Even wins its vertex with the root node in the arena of a system and a normal form, which isn't
-/// stored. There is none where the sheet is no good ranking of the arena, where the arena has too many vertices for a game, or for want of memory.
+/// stored. There is none where the sheet is no good ranking of the arena, where the arena has too many vertices for a game, or where memory runs out.
 /// Of a large arena so many threads look at the states, each at as many.
 pub fn root_winners<R: Threads + Sync>(
     rt: &R,

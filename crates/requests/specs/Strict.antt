@@ -20,7 +20,7 @@ pub record AreWords (first second : List ℕ) (place : Option ℕ) : Type 0 wher
 abbrev pub KnowsWords : (first second : List ℕ) → Type 0
 KnowsWords first second = AreWords first second None
 
--- a refusal that may come before both texts are read, or for want of memory
+-- a refusal that may come before both texts are read, or where memory runs out
 abbrev pub MayComeFirst : MuError → Type 0
 MayComeFirst (error.System e) = Unit {0}
 MayComeFirst e = IsReadingRefusal e

@@ -20,7 +20,7 @@ pub record IsFormulaOf (text : List ℕ) (f : Formula) : Type 0 where
   pub only : (other : Formula) → Spells text other → other ≡ f
   pub admitted : IsAdmitted f
 
--- a failed read, or want of memory
+-- a failed read, or out of memory
 abbrev pub IsReadFault : MuError → Type 0
 IsReadFault error.Read = Unit {0}
 IsReadFault error.Memory = Unit {0}

@@ -73,9 +73,11 @@ pub fn read_asked<L: BuildHasher + Drop, R: Source + Drop, S: Source + Drop, O: 
         → IfOk result (λ texts. AreSpelled first second texts.system.system (closed_formula texts.formula)) }
     ensures known { (first second : List ℕ) → R.remaining aut ≡ Some first → S.remaining formula ≡ Some second
         → IfOk result (λ _. IsTrue strict → KnowsWords first second) }
+
     ensures refusal { (first second : List ℕ) → R.remaining aut ≡ Some first → S.remaining formula ≡ Some second
         → (way : Way) (writers : List Lent) → AreKept writers → IfErr result (HasRefusedBy strict way first second writers) }
     ensures plain { IfErr result (λ e. IsTrue strict ⊎ IsErrorOf BySets e) }
+
     ensures cause { IfErr result (HaveCauses R.can_fail S.can_fail) }
 {
     observer.sees(Stage::ReadingSystem);

@@ -75,7 +75,7 @@ impl Read for Halting<'_> {
     }
 }
 
-/// A reader whose every read fails as one for want of memory does.
+/// A reader whose every read fails as one does where memory runs out.
 #[derive(Drop)]
 pub struct Wanting;
 

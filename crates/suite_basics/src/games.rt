@@ -41,7 +41,7 @@ fn text_of(alloc: Global, game: Result<Game, BuildError>) -> Result<String, Allo
     }
 }
 
-// The game of texts, if they are a system and a formula, where the states are cut into so many ranges, or the refusal; `None` also for want of memory for
+// The game of texts, if they are a system and a formula, where the states are cut into so many ranges, or the refusal; `None` also where memory runs out for
 // these.
 fn split(rt: &impl Host, system: &str, formula: &str, ranges: u32) -> Option<String>
     requires { 1 ≤ ranges }

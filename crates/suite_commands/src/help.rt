@@ -15,7 +15,7 @@ Commands:
   solve    Writes for each vertex of a parity game who wins it
   verify   Checks evidence that a player wins vertices of a parity game
   replay   Writes what the events of a schedule come to in a parity game
-  explain  Tells what a code of a refusal means, and how to mend it
+  explain  Tells what a code of a refusal means, and how to fix it
   help     Tells what a command does, or which commands there are
   version  Tells the version, and what proved it
 
@@ -27,7 +27,7 @@ mucheck help COMMAND says more of a command; for a pager, mucheck help | less. O
 files that it reads may be -, which is standard input.
 
 A refusal begins with a line on standard error, mucheck: CODE, with its place. The command
-mucheck explain CODE says what it means and how to mend it. The most frequent:
+mucheck explain CODE says what it means and how to fix it. The most frequent:
   A1      mostly both files in the wrong order, or a byte order mark
   A2      mostly a label without quotes
   F1, F2  in a modality mostly a label with parameters, which wants quotes: <"send(1)">true

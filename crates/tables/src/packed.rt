@@ -190,6 +190,7 @@ impl PackedBoard {
     fn look_at(&self, seat: &mut PackedSeat, v: u32) -> u64
         requires seat { IsSeatOf self.now seat.old }
         requires vertex { v < length (board_game self.now).vertices }
+
         ensures seat { IsSeatOf self.now seat.new }
         ensures word { IsWord (board_game self.now) v result }
         ensures later { IsAtMost (value_at (seen seat.old) v) (measure_of_rank (board_game self.now) result) }
@@ -203,6 +204,7 @@ impl PackedBoard {
     pub fn load(&self, seat: &mut PackedSeat, v: u32) -> Measure
         requires seat { IsSeatOf self.now seat.old }
         requires vertex { v < length (board_game self.now).vertices }
+
         ensures seat { IsSeatOf self.now seat.new }
         ensures below { LiesBelow (board_game self.now) v result }
         ensures later { IsAtMost (value_at (seen seat.old) v) result }
@@ -216,6 +218,7 @@ impl PackedBoard {
     fn best_rank(&self, seat: &mut PackedSeat, v: u32) -> u64
         requires seat { IsSeatOf self.now seat.old }
         requires vertex { v < length (board_game self.now).vertices }
+
         ensures seat { IsSeatOf self.now seat.new }
         ensures kept { LiesUnder (seen seat.old) (seen seat.new) }
         ensures low { result ≤ height (board_game self.now) }
@@ -243,6 +246,7 @@ impl PackedBoard {
         requires vertex { v < length (board_game self.now).vertices }
         requires low { number ≤ height (board_game self.now) }
         requires below { LiesBelow (board_game self.now) v (measure_of_rank (board_game self.now) number) }
+
         ensures seat { IsSeatOf self.now seat.new }
         ensures kept { LiesUnder (seen seat.old) (seen seat.new) }
         ensures raised { IsAtMost (measure_of_rank (board_game self.now) number) (value_at (seen seat.new) v) }
@@ -263,6 +267,7 @@ impl PackedBoard {
         requires vertex { v < length (board_game self.now).vertices }
         requires low { number ≤ height (board_game self.now) }
         requires below { LiesBelow (board_game self.now) v (measure_of_rank (board_game self.now) number) }
+
         ensures seat { IsSeatOf self.now seat.new }
         ensures kept { LiesUnder (seen seat.old) (seen seat.new) }
         ensures raised { IsAtMost (measure_of_rank (board_game self.now) number) (value_at (seen seat.new) v) }
@@ -280,6 +285,7 @@ impl PackedBoard {
         requires seat { IsSeatOf self.now seat.old }
         requires vertex { v < length (board_game self.now).vertices }
         requires below { LiesBelow (board_game self.now) v m.now }
+
         ensures seat { IsSeatOf self.now seat.new }
         ensures kept { LiesUnder (seen seat.old) (seen seat.new) }
         ensures raised { IsAtMost m.now (value_at (seen seat.new) v) }
@@ -293,6 +299,7 @@ impl PackedBoard {
     pub fn lift(&self, seat: &mut PackedSeat, v: u32) -> bool
         requires seat { IsSeatOf self.now seat.old }
         requires vertex { v < length (board_game self.now).vertices }
+
         ensures seat { IsSeatOf self.now seat.new }
         ensures kept { LiesUnder (seen seat.old) (seen seat.new) }
         ensures lifted { IsOverLift (board_game self.now) (seen seat.old) v (value_at (seen seat.new) v) }
@@ -354,6 +361,7 @@ impl PackedBoard {
     pub(crate) fn read_into(&self, seat: &mut PackedSeat, table: &mut PlainTable)
         requires table { table.old.game ≡ board_game self.now }
         requires seat { IsSeatOf self.now seat.old }
+
         ensures seat { IsSeatOf self.now seat.new }
         ensures game { table.new.game ≡ board_game self.now }
         ensures kept { LiesUnder table.old.values table.new.values }
@@ -398,6 +406,7 @@ fn pour(closed: Closed<(), Global>, game: &Game, table: &mut PlainTable)
     requires few { height game.now < RANK_LIMIT }
     requires same { table.old.game ≡ game.now }
     requires words { (v : ℕ) → v < length game.now.vertices → IsWord game.now v (slice_index (slots_items closed.words) v) }
+
     ensures game { table.new.game ≡ game.now }
     ensures kept { LiesUnder table.old.values table.new.values }
     ensures poured { (v : ℕ) → v < length game.now.vertices → IsAtMost (measure_of_rank game.now (slice_index (slots_items closed.words) v))

@@ -45,8 +45,10 @@ impl<K: GameName> Shard<K> {
     pub fn new(alloc: Global, game: &Game, index: u32, shards: u32) -> Result<Self, TableError>
         requires game { game.now ≡ K.game }
         requires index { index < shards }
+
         ensures index { IfOk result (λ s. s.index ≡ index) }
         ensures shards { IfOk result (λ s. s.shards ≡ shards) }
+
         ensures refused { IfErr result (λ e. e ≡ errors.Memory) }
         ensures values { IfOk result (λ s. (v : ℕ) → v < length K.game.vertices → Has s v → value_of_part s v ≡ value_at (opening_of K.game) v) }
     {
@@ -93,6 +95,7 @@ impl<K: GameName> Shard<K> {
         requires vertex { v < length K.game.vertices }
         requires here { Has self.now v }
         requires place { v / self.now.shards ≡ place }
+
         ensures value { result ≡ value_of_part self.now v }
         ensures below { LiesBelow K.game v result }
     {
@@ -117,6 +120,7 @@ impl<K: GameName> Shard<K> {
         requires here { Has self.old v }
         requires place { v / self.old.shards ≡ place }
         requires below { LiesBelow K.game v m.now }
+
         ensures index { self.new.index ≡ self.old.index }
         ensures shards { self.new.shards ≡ self.old.shards }
         ensures values { self.new.values ≡ slice_set self.old.values (v / self.old.shards) (greater_of (value_of_part self.old v) m.now) }
@@ -137,6 +141,7 @@ impl<K: GameName> Shard<K> {
         requires vertex { v < length K.game.vertices }
         requires here { Has self.old v }
         requires below { LiesBelow K.game v m.now }
+
         ensures index { self.new.index ≡ self.old.index }
         ensures shards { self.new.shards ≡ self.old.shards }
         ensures values { self.new.values ≡ slice_set self.old.values (v / self.old.shards) (greater_of (value_of_part self.old v) m.now) }

@@ -47,6 +47,7 @@ pub(crate) fn prog_rank(game: &Game, weights: &[u64], top: u64, v: u32, number: 
     requires few { height game.now < RANK_LIMIT }
     requires vertex { v < length game.now.vertices }
     requires number { number ≤ height game.now }
+
     ensures low { result ≤ height game.now }
     ensures prog { IsProgAt game.now v (measure_of_rank game.now number) (measure_of_rank game.now result) }
 {

@@ -1,4 +1,4 @@
-// Why a line could not be read, and want of memory.
+// Why a line could not be read, and a lack of memory.
 
 ghost use Rattle.std.specs.Prelude.{◌≡◌};
 ghost use Rattle.text.specs.declared.error.ReadFault.TheVariants as faults;
@@ -13,7 +13,7 @@ pub enum ReadFault {
     #[error("a failed read")]
     Read,
     /// A growth was refused.
-    #[error("want of memory")]
+    #[error("out of memory")]
     Memory,
 }
 
@@ -25,9 +25,9 @@ impl From<AllocError> for ReadFault {
     }
 }
 
-/// Want of memory, by itself: each program above gives it a code of its own.
+/// Out of memory, by itself: each program above gives it a code of its own.
 #[derive(Clone, Copy, Debug, PartialEq, Eq, Error)]
-#[error("want of memory")]
+#[error("out of memory")]
 pub struct Memory;
 
 impl From<AllocError> for Memory {

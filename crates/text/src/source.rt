@@ -105,7 +105,7 @@ impl<S: Source> Blocks for BufReader<Noted<S>> {
 /// The blocks of a source: of 8,192 bytes each.
 ///
 /// # Errors
-/// Want of memory, and nothing else.
+/// Out of memory, and nothing else.
 pub fn blocks_of<S: Source + Drop>(alloc: Global, source: S) -> Result<BufReader<Noted<S>>, Memory>
     ensures { IfOk result (λ blocks. ⟦<BufReader<Noted<S>> as Read>⟧.remaining blocks ≡ S.remaining source) }
 {

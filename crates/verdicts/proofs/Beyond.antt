@@ -91,6 +91,6 @@ pub marks_or_memory : {A : Type 0} (items : A → List Bool) (rule : Priorities)
 marks_or_memory items rule board l f g (Ok marks) fits found memory = found (Some board) fits
 marks_or_memory items rule board l f g (Err e) fits found memory = subst (IsBeyond (ByGame rule (Some board)) l f) (sym memory) tt
 
--- Want of memory is no read that failed.
+-- Out of memory is no read that failed.
 pub memory_caused : (aut formula : Bool) (e : MuError) → e ≡ error.Memory → HaveCauses aut formula e
 memory_caused aut formula e h = no_read (λ d. d ≡ error.Memory) aut formula e (λ no. absurd cc) (λ no. absurd cc) h

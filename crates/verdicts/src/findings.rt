@@ -83,6 +83,7 @@ pub fn find_alone<L: BuildHasher + Drop, R: Source + Drop, S: Source + Drop, H: 
     ensures way { IfOk result (λ found. way_in found ≡ ByGame priorities None) }
     ensures spelled { (first second : List ℕ) → R.remaining aut ≡ Some first → S.remaining formula ≡ Some second
         → IfOk result (λ found. AreSpelled first second (system_of found) (formula_found found)) }
+
     ensures refusal { (first second : List ℕ) → R.remaining aut ≡ Some first → S.remaining formula ≡ Some second
         → (writers : List Lent) → AreKept writers → IfErr result (RefusesCheck (ByGame priorities None) first second writers) }
     ensures cause { IfErr result (HaveCauses R.can_fail S.can_fail) }
@@ -109,6 +110,7 @@ pub fn find_with<L: BuildHasher + Drop, R: Source + Drop, S: Source + Drop, T: G
     ensures way { IfOk result (λ found. way_in found ≡ ByGame options.now.priorities (Some options.now.board)) }
     ensures spelled { (first second : List ℕ) → R.remaining aut ≡ Some first → S.remaining formula ≡ Some second
         → IfOk result (λ found. AreSpelled first second (system_of found) (formula_found found)) }
+
     ensures refusal { (first second : List ℕ) → R.remaining aut ≡ Some first → S.remaining formula ≡ Some second
         → (writers : List Lent) → AreKept writers → IfErr result (RefusesCheck (ByGame options.now.priorities (Some options.now.board)) first second writers) }
     ensures cause { IfErr result (HaveCauses R.can_fail S.can_fail) }
@@ -131,9 +133,11 @@ pub fn find_in<O: Watcher, H: Runtime>(
     observer: &O,
 ) -> Result<Findings, MuError>
     requires { IfSome least (IsLeastFound options.now.priorities options.now.board texts.system.system (closed_formula texts.formula)) }
+
     ensures found { IfOk result AreFindings }
     ensures way { IfOk result (λ found. way_in found ≡ ByGame options.now.priorities (Some options.now.board)) }
     ensures texts { IfOk result (λ found. found.texts.value ≡ texts) }
+
     ensures refusal { IfErr result (IsBeyond (ByGame options.now.priorities (Some options.now.board)) texts.system.system (closed_formula texts.formula)) }
 {
     let texts = boxed(alloc, texts)?;
@@ -156,9 +160,11 @@ fn find_boxed<O: Watcher, H: Runtime>(
     observer: &O,
 ) -> Result<Findings, MuError>
     requires { IfSome least (IsLeastFound options.now.priorities options.now.board texts.value.system.system (closed_formula texts.value.formula)) }
+
     ensures found { IfOk result AreFindings }
     ensures way { IfOk result (λ found. way_in found ≡ ByGame options.now.priorities (Some options.now.board)) }
     ensures texts { IfOk result (λ found. found.texts.value ≡ texts.value) }
+
     ensures refusal { IfErr result (IsBeyond (ByGame options.now.priorities (Some options.now.board)) texts.value.system.system
         (closed_formula texts.value.formula)) }
 {
@@ -178,9 +184,11 @@ fn find_by_least<O: Watcher, H: Runtime>(
     observer: &O,
 ) -> Result<Findings, MuError>
     requires { IsLeastFound options.now.priorities options.now.board texts.value.system.system (closed_formula texts.value.formula) least }
+
     ensures found { IfOk result AreFindings }
     ensures way { IfOk result (λ found. way_in found ≡ ByGame options.now.priorities (Some options.now.board)) }
     ensures texts { IfOk result (λ found. found.texts.value ≡ texts.value) }
+
     ensures refusal { IfErr result (IsBeyond (ByGame options.now.priorities (Some options.now.board)) texts.value.system.system
         (closed_formula texts.value.formula)) }
 {
@@ -224,6 +232,7 @@ fn read_and_build<L: BuildHasher + Drop, R: Source + Drop, S: Source + Drop, H: 
     ensures rule { IfOk result (λ posed. posed.priorities ≡ priorities) }
     ensures spelled { (first second : List ℕ) → R.remaining aut ≡ Some first → S.remaining formula ≡ Some second
         → IfOk result (λ posed. AreSpelled first second posed.texts.value.system.system (closed_formula posed.texts.value.formula)) }
+
     ensures refusal { (first second : List ℕ) → R.remaining aut ≡ Some first → S.remaining formula ≡ Some second
         → (board : Option BoardKind) (writers : List Lent) → AreKept writers → IfErr result (RefusesCheck (ByGame priorities board) first second writers) }
     ensures cause { IfErr result (HaveCauses R.can_fail S.can_fail) }
@@ -261,9 +270,11 @@ fn build_with<O: Observer, H: Threads + Sync>(
 ) -> Result<GameToSolve, MuError>
     requires nodes { normal_nodes form ≡ nodes_with priorities (closed_formula texts.value.formula) }
     requires form { HasForm priorities (closed_formula texts.value.formula) }
+
     ensures posed { IfOk result ArePosed }
     ensures rule { IfOk result (λ posed. posed.priorities ≡ priorities) }
     ensures texts { IfOk result (λ posed. posed.texts.value ≡ texts.value) }
+
     ensures refusal { IfErr result (IsBeyond (ByGame priorities None) texts.value.system.system (closed_formula texts.value.formula)) }
 {
     observer.sees(Stage::Building {
@@ -284,9 +295,11 @@ fn build_with<O: Observer, H: Threads + Sync>(
 /// What is found out of these texts on one thread.
 fn find_by_one(alloc: Global, posed: GameToSolve) -> Result<Findings, MuError>
     requires { ArePosed posed }
+
     ensures found { IfOk result AreFindings }
     ensures way { IfOk result (λ found. way_in found ≡ ByGame posed.priorities None) }
     ensures texts { IfOk result (λ found. found.texts.value ≡ posed.texts.value) }
+
     ensures refusal { IfErr result (λ e. e ≡ MuError.Memory) }
 {
     let settled = solve_one(alloc, &posed.game)?;
@@ -302,9 +315,11 @@ fn find_by_workers<T: Gate, H: Runtime>(
     gate: &T,
 ) -> Result<Findings, MuError>
     requires { ArePosed posed }
+
     ensures found { IfOk result AreFindings }
     ensures way { IfOk result (λ found. way_in found ≡ ByGame posed.priorities (Some options.now.board)) }
     ensures texts { IfOk result (λ found. found.texts.value ≡ posed.texts.value) }
+
     ensures refusal { IfErr result (IsUnsolved (Some options.now.board) (arc_value posed.game)) }
 {
     let settled = solve_seen(rt, alloc, &posed.game, options, gate, &Silent, None)?;
@@ -321,9 +336,11 @@ fn find_least(
     requires posed { ArePosed posed }
     requires least { AreLeastOf posed.texts.value.system.system (nodes_with posed.priorities (closed_formula posed.texts.value.formula)) least }
     requires board { FitsBoard (Some options.now.board) (arc_value posed.game) }
+
     ensures found { IfOk result AreFindings }
     ensures way { IfOk result (λ found. way_in found ≡ ByGame posed.priorities (Some options.now.board)) }
     ensures texts { IfOk result (λ found. found.texts.value ≡ posed.texts.value) }
+
     ensures refusal { IfErr result (λ e. e ≡ MuError.Memory) }
 {
     let settled = Settled::of_proposals(alloc, &posed.game, &least, Player::Even)?;
@@ -339,9 +356,11 @@ fn find_posed<O: Observer + Sync, H: Runtime>(
     observer: &O,
 ) -> Result<Findings, MuError>
     requires { ArePosed posed }
+
     ensures found { IfOk result AreFindings }
     ensures way { IfOk result (λ found. way_in found ≡ ByGame posed.priorities (Some options.now.board)) }
     ensures texts { IfOk result (λ found. found.texts.value ≡ posed.texts.value) }
+
     ensures refusal { IfErr result (IsUnsolved (Some options.now.board) (arc_value posed.game)) }
 {
     let settled = settle_posed(rt, alloc, &posed, options, observer)?;
@@ -382,10 +401,12 @@ fn find_solved(
         (nodes_with posed.priorities (closed_formula posed.texts.value.formula))) }
     requires board { FitsBoard board (arc_value posed.game) }
     requires settled { settled.game ≡ arc_value posed.game }
+
     ensures found { IfOk result AreFindings }
     ensures way { IfOk result (λ found. way_in found ≡ ByGame posed.priorities board) }
     ensures texts { IfOk result (λ found. found.texts.value ≡ posed.texts.value) }
     ensures game { IfOk result (λ found. arc_value found.solution.game ≡ arc_value posed.game) }
+
     ensures refusal { IfErr result (λ e. e ≡ MuError.Memory) }
 {
     let GameToSolve {
@@ -417,7 +438,9 @@ fn find_solved(
 /// E5.
 pub fn odd_evidence_found(alloc: Global, found: &Findings) -> Result<Evidence, EvidenceError>
     requires { AreFindings found.now }
+
     ensures game { IfOk result (λ e. e.game ≡ arc_value found.now.solution.game) }
+
     ensures memory { IfErr result (λ e. e ≡ EvidenceError.Memory) }
     ensures odd { IfOk result (λ e. IsOddOf (arc_value found.now.solution.game) e.evidence) }
     ensures good { IfOk result (λ e. IsGood (arc_value found.now.solution.game) e.evidence) }

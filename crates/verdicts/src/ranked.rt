@@ -48,7 +48,7 @@ fn ranked_winners<H: Threads + Sync>(
 }
 
 /// A mark for each state, true where it satisfies the formula: by a ranking of the game of both that is searched for and found good. There is none where it
-/// isn't good, where a limit is passed, or for want of memory; nor where a board is named, over which workers are to lift. As many threads work as there are
+/// isn't good, where a limit is passed, or where memory runs out; nor where a board is named, over which workers are to lift. As many threads work as there are
 /// workers, and no more than there are processors. An observer is told that winners are searched for.
 pub(crate) fn ranked_marks<O: Observer, H: Threads + Sync>(
     rt: &H,

@@ -36,7 +36,7 @@ pub enum Ways<'a> {
 /// Tells the play by the evidence from a vertex on, depth first: all of it, or so many visits.
 ///
 /// # Errors
-/// Want of memory.
+/// Out of memory.
 pub fn telling(
     alloc: Global,
     game: &Game,
@@ -48,6 +48,7 @@ pub fn telling(
     requires good { IsGood game.now evidence.now.evidence }
     requires root { IsTrue (has_entry evidence.now.evidence root) }
     requires some { 0 < most }
+
     ensures { IfOk result (λ visits. IsTelling game.now evidence.now.evidence root most visits.items) }
 {
     evidence.known();
@@ -76,6 +77,7 @@ fn step(game: &Game, evidence: &Evidence, way: Way, walk: &mut Walk) -> Result<O
     requires same { evidence.now.game ≡ game.now }
     requires good { IsGood game.now evidence.now.evidence }
     requires walk { (root : ℕ) × IsWalkBy game.now evidence.now.evidence root walk.old (Some way) }
+
     ensures told { IfOk result (HasTold game.now evidence.now.evidence way walk.old walk.new) }
     ensures end { IfOk result (λ next. next ≡ None → length walk.new.waiting.items ≡ 0) }
 {

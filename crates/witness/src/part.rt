@@ -123,6 +123,7 @@ fn taken(
     requires same { evidence.now.game ≡ game.now }
     requires sets { AreSets system.now.labels (normal_nodes normal.now) (map (λ set. set.items) sets.now) }
     requires count { length sets.now ≡ length (normal_nodes normal.now) }
+
     ensures inside { IfOk result (λ part. IsInside system.now part.items) }
     ensures taken { IfOk result (λ part. system_with system.now part.items
         ≡ whole_witness system.now.system (normal_nodes normal.now) evidence.now.evidence (is_marked marks.now)) }
@@ -161,7 +162,7 @@ pub fn has_root(system: &Lts, normal: &Normal, game: &Game, evidence: &Evidence)
 /// normal form this is. It looks at each edge of what the play reaches once, and at each transition once for each node.
 ///
 /// # Errors
-/// Want of memory.
+/// Out of memory.
 pub fn witness(
     alloc: Global,
     system: &Lts,
@@ -173,6 +174,7 @@ pub fn witness(
     requires same { evidence.now.game ≡ game.now }
     requires good { IsGood game.now evidence.now.evidence }
     requires root { IsTrue (has_entry evidence.now.evidence (root_of system.now.system (normal_nodes normal.now))) }
+
     ensures inside { IfOk result (λ part. IsInside system.now part.items) }
     ensures taken { IfOk result (λ part. HasTaken system.now.system (normal_nodes normal.now) evidence.now.evidence (system_with system.now part.items)) }
     ensures witness { IfOk result (λ part. (f : Formula) → IsAdmitted f → IsNodes (normal_form f) (normal_nodes normal.now)

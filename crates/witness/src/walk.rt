@@ -46,6 +46,7 @@ fn follow(
     requires good { IsGood game.now evidence.now.evidence }
     requires vertex { u < length game.now.vertices }
     requires long { length marks.old.items ≡ length game.now.vertices }
+
     ensures { OnOk result ((targets : List ℕ) × AreGoals game.now evidence.now.evidence u targets
         × Visits marks.old.items waiting.old.items targets marks.new.items waiting.new.items) }
 {

@@ -24,7 +24,7 @@ IsMemory (error.Board table.Memory) = Unit {0}
 IsMemory (error.Solve solve.Memory) = Unit {0}
 IsMemory _ = ⊥
 
--- Why there is no table: T1 exactly where the board can't be had, and else want of memory.
+-- Why there is no table: T1 exactly where the board can't be had, and else out of memory.
 abbrev pub IsTeamRefusal : BoardKind → Game → TeamError → Type 0
 IsTeamRefusal kind g (error.Board table.TooManyRanks) = IsTooGreat kind g
 IsTeamRefusal kind g e = IsMemory e × (IsTooGreat kind g → ⊥)

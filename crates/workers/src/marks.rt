@@ -73,7 +73,7 @@ impl JobMarks {
     /// All of so many vertices are pending, and no block is a job.
     ///
     /// # Errors
-    /// Want of memory, and nothing else.
+    /// Out of memory, and nothing else.
     pub(crate) fn new(alloc: Global, vertices: u32) -> Result<Self, AllocError> {
         Ok(JobMarks {
             pending: so_many(alloc, vertices as usize, true)?,

@@ -110,8 +110,10 @@ fn solve_locked<K: GameName + Send + Sync, G: Gate, O: Observer + Sync, R: Runti
 ) -> Result<Settled, TeamError>
     requires named { arc_value game.now ≡ K.game }
     requires won { MayBeRaised (arc_value game.now) won }
+
     ensures game { IfOk result (λ s. s.game ≡ arc_value game.now) }
     ensures least { IfOk result (λ s. IsLeastTable (arc_value game.now) s.values) }
+
     ensures refused { IfErr result IsMemory }
 {
     let own = Arc::try_clone(game).map_err(TableError::from)?;
@@ -130,8 +132,10 @@ fn solve_packed<G: Gate, O: Observer + Sync, R: Threads + Wait + Sync>(
 ) -> Result<Settled, TeamError>
     requires few { height (arc_value game.now) < RANK_LIMIT }
     requires won { MayBeRaised (arc_value game.now) won }
+
     ensures game { IfOk result (λ s. s.game ≡ arc_value game.now) }
     ensures least { IfOk result (λ s. IsLeastTable (arc_value game.now) s.values) }
+
     ensures refused { IfErr result IsMemory }
 {
     let own = Arc::try_clone(game).map_err(TableError::from)?;
@@ -151,8 +155,10 @@ fn solve_over<B: Board + Drop + Sync, G: Gate, O: Observer + Sync, R: Threads + 
 ) -> Result<Settled, TeamError>
     requires board { B.game board ≡ arc_value game.now }
     requires won { MayBeRaised (arc_value game.now) won }
+
     ensures game { IfOk result (λ s. s.game ≡ arc_value game.now) }
     ensures least { IfOk result (λ s. IsLeastTable (arc_value game.now) s.values) }
+
     ensures refused { IfErr result IsMemory }
 {
     if let Some(won) = won {

@@ -45,6 +45,7 @@ fn lift<B: Board>(game: &Game, board: &B, seat: &mut B::Seat, turn: &mut Turn, v
     requires seat { B.fits board.now seat.old }
     requires turn { turn.old.game ≡ game.now }
     requires vertex { v < length game.now.vertices }
+
     ensures seat { B.fits board.now seat.new }
     ensures turn { turn.new.game ≡ game.now }
     ensures turned { By (B.did board.now seat.old seat.new) (IsTurn game.now v result) }
@@ -73,6 +74,7 @@ fn turn_at<K: GameName, B: Board, G: Gate, O: Observer, M: Pending>(
     requires seat { B.fits floor.now.board.now seat.old }
     requires turn { turn.old.game ≡ K.game }
     requires vertex { v < length K.game.vertices }
+
     ensures seat { B.fits floor.now.board.now seat.new }
     ensures turn { turn.new.game ≡ K.game }
     ensures turned { IsTrue result → Done (B.did floor.now.board.now seat.old seat.new) (Gave own.old own.new)
@@ -98,6 +100,7 @@ fn first_turns<K: GameName, B: Board, G: Gate, O: Observer, M: Pending>(
     requires one { IsOneGame K.game floor.now.game.now (B.game floor.now.board.now) floor.now.predecessors.now }
     requires seat { B.fits floor.now.board.now seat.old }
     requires turn { turn.old.game ≡ K.game }
+
     ensures seat { B.fits floor.now.board.now seat.new }
     ensures turn { turn.new.game ≡ K.game }
     ensures turned { IsTrue result → Done (B.did floor.now.board.now seat.old seat.new) (Gave own.old own.new)
@@ -127,6 +130,7 @@ fn block_turns<K: GameName, B: Board, G: Gate, O: Observer, M: Pending>(
     requires one { IsOneGame K.game floor.now.game.now (B.game floor.now.board.now) floor.now.predecessors.now }
     requires seat { B.fits floor.now.board.now seat.old }
     requires turn { turn.old.game ≡ K.game }
+
     ensures seat { B.fits floor.now.board.now seat.new }
     ensures turn { turn.new.game ≡ K.game }
     ensures turned { IsTrue result → Done (B.did floor.now.board.now seat.old seat.new) (Gave own.old own.new)
@@ -171,6 +175,7 @@ fn take_turns<K: GameName, B: Board, G: Gate, O: Observer, M: Pending, R: Wait>(
     requires one { IsOneGame K.game floor.now.game.now (B.game floor.now.board.now) floor.now.predecessors.now }
     requires seat { B.fits floor.now.board.now seat.old }
     requires turn { turn.old.game ≡ K.game }
+
     ensures seat { B.fits floor.now.board.now seat.new }
     ensures turn { turn.new.game ≡ K.game }
     ensures turned { IsFilled own.old own.new
