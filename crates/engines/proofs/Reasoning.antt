@@ -2,8 +2,12 @@
 use Rattle.std.proofs.Common.{◌≡◌, ℕ, ◌<◌, Bool, false, List, [], ◌∷◌, Option, Some, Result, Ok, Err, inl, inr, refl, sym, subst}
 use Rattle.text.specs.Taken.{Taken}
 use Rattle.text.proofs.Writing.{Stays-refl}
-use Rattle.std.specs.Prelude.{IsTrue, MatchResult, slice_index_or}
-use Rattle.text.specs.Wrote.{Wrote}
+use Rattle.std.specs.Arc.{arc_value}
+use Rattle.std.specs.Prelude.{IsTrue, ◌↔◌, slice_index_or}
+use Rattle.systems.specs.System.{System}
+use Rattle.calculus.specs.Meaning.{Satisfies}
+use Rattle.calculus.specs.Tree.{Formula}
+use Rattle.game.specs.Game.{Game}
 use Rattle.text.specs.declared.write_loop.WriteFault.{WriteFault}
 use Rattle.calculus.specs.declared.priorities.Priorities.{Priorities}
 use Rattle.calculus.specs.Nodes.{Node}
@@ -13,18 +17,15 @@ use Rattle.why.specs.declared.visit.Visit.{Visit}
 use Rattle.workers.specs.declared.team.BoardKind.{BoardKind}
 use Rattle.requests.specs.declared.error.MuError.{MuError}
 use Rattle.requests.specs.declared.error.MuError.TheVariants as error
-use Rattle.requests.specs.declared.request.ReportForm.TheVariants.{Nothing}
-use Rattle.requests.specs.declared.request.Wanted.{Wanted}
 use Rattle.requests.specs.declared.texts.Texts.{Texts}
-use Rattle.requests.specs.declared.request.WitnessForm.TheVariants.{System as AsSystem}
-use Rattle.requests.specs.Check.{AreSpelled, ByGame, RefusesCheck, Way}
+use Rattle.requests.specs.Check.{AreSpelled, ByGame, RefusesCheck}
 use Rattle.requests.specs.Strict.{HasRefusedBy, KnowsWords}
 use Rattle.requests.specs.Writers.{AreKept, Lent, WitnessText, lent_for}
-use Rattle.verdicts.specs.declared.findings.Findings.{Findings}
 use Rattle.engines.specs.declared.reasons.PlayVisits.{PlayVisits}
-use Rattle.engines.specs.Prepared.{IsUnshown}
-use Rattle.verdicts.specs.Findings.{AreFindings, formula_found, system_of, way_in}
-use Rattle.engines.specs.Reasons.{AreReasons, AreToldOf, HasNoReasons, TellsReasons, reasons}
+use Rattle.verdicts.proofs.Beyond.{beyond_of}
+use Rattle.engines.specs.Play.{HasNoPlay, IsPlayFound, formula_played, system_played}
+use Rattle.engines.specs.declared.play.PlayFound.{PlayFound}
+use Rattle.engines.specs.Reasons.{AreTold, HasGivenReasons, HasNoReasons, IsToldBy, TellsReasons, reasons}
 use Rattle.engines.specs.StrictReasons.{HasNoReasonsBy, TellsReasonsBy}
 
 no_write : (fault : WriteFault) (place : ℕ) → ◌≡◌ {A = MuError} (error.Write fault) (error.NoLabel place) → ⊥
@@ -80,31 +81,18 @@ strictly_refused strict rule board limit first second old (error.Solve e) h = h 
 strictly_refused strict rule board limit first second old (error.Schedule e) h = h (lent_for WitnessText old old ∷ []) (Stays-refl old, tt)
 strictly_refused strict rule board limit first second old (error.NoLabel offset) h = h (lent_for WitnessText old old ∷ []) (Stays-refl old, tt)
 
--- Nothing was written where there was no memory for a witness.
-pub unshown_kept : (x : Findings) (limit : ℕ) (first second : List ℕ) (old : Taken) (e : MuError)
-    → AreSpelled first second (system_of x) (formula_found x) → AreFindings x → IsUnshown e → HasNoReasons x.solution.priorities x.solution.board limit first second old old e
-unshown_kept x limit first second old e spelled found (inl is) =
-    subst (HasNoReasons x.solution.priorities x.solution.board limit first second old old) (sym is)
-    ((system_of x, spelled.system.spelled), (Stays-refl old, tt))
-unshown_kept x limit first second old e spelled found (inr is) =
-    subst (HasNoReasons x.solution.priorities x.solution.board limit first second old old) (sym is) (
-      record { l = system_of x; f = formula_found x; spelled = spelled; within = found.marks.within; needed = inr (inl (inl refl)); memory = refl },
+-- Nothing was written where no play was found.
+pub unplayed_kept : (rule : Priorities) (board : BoardKind) (limit : ℕ) (first second : List ℕ) (old : Taken) (l : System) (f : Formula) (e : MuError)
+    → AreSpelled first second l f → HasNoPlay rule board l f e → HasNoReasons rule (Some board) limit first second old old e
+unplayed_kept rule board limit first second old l f e spelled (inl beyond) =
+    refused_kept rule (Some board) limit first second old e (λ writers kept. beyond_of rule (Some board) first second writers l f e spelled beyond kept)
+unplayed_kept rule board limit first second old l f e spelled (inr (within, inl is)) =
+    subst (HasNoReasons rule (Some board) limit first second old old) (sym is) ((l, spelled.system.spelled), (Stays-refl old, tt))
+unplayed_kept rule board limit first second old l f e spelled (inr (within, inr is)) =
+    subst (HasNoReasons rule (Some board) limit first second old old) (sym is) (
+      record { l = l; f = f; spelled = spelled; within = within; needed = inr (inl (inl refl)); memory = refl },
       (Stays-refl old, tt),
     )
-
--- What is told is the answer and a play that shows it.
-why_told : (x : Findings) (limit : ℕ) (told : PlayVisits) → AreFindings x → AreToldOf x limit told
-    → AreReasons x.solution.priorities limit (system_of x) (formula_found x) (slice_index_or x.marks.items (system_of x).initial false)
-    (reasons (formula_found x) (slice_index_or x.marks.items (system_of x).initial false) (system_of x) (normal_nodes x.solution.form) told.most
-    told.visits.items told.heads.items told.count)
-why_told x limit told found is = record {
-  visits = told.visits.items;
-  heads = told.heads.items;
-  count = told.count;
-  told = is.lines;
-  is = λ j. reasons (formula_found x) (slice_index_or x.marks.items (system_of x).initial false) (system_of x) (found.solution.form j) (is.most j)
-      told.visits.items told.heads.items told.count;
-}
 
 -- the same story of the same
 pub story_same : (t u : Texts) (nodes : List Node) (most : ℕ) (visits others : List Visit) (heads marks : List Bool) (count : ℕ)
@@ -112,45 +100,33 @@ pub story_same : (t u : Texts) (nodes : List Node) (most : ℕ) (visits others :
     → story_text t.system.system nodes most visits heads count ≡ story_text u.system.system nodes most others marks count
 story_same t u nodes most visits others heads marks count et ev eh = λ j. story_text (et j).system.system nodes most (ev j) (eh j) count
 
--- All was written, or a beginning.
-pub reasoned : (x : Findings) (limit : ℕ) (told : PlayVisits) (first second : List ℕ) (old new : Taken) (wrote : Result Unit WriteFault)
-    (r : Result Bool MuError) → AreFindings x → (system_of x).initial < (system_of x).states
-    → AreSpelled first second (system_of x) (formula_found x) → AreToldOf x limit told
-    → Wrote old new wrote (reasons (formula_found x) (slice_index_or x.marks.items (system_of x).initial false) (system_of x) (normal_nodes x.solution.form)
-    told.most told.visits.items told.heads.items told.count)
-    → MatchResult wrote (λ _. r ≡ Ok (slice_index_or x.marks.items (system_of x).initial false)) (λ fault. r ≡ Err (error.Write fault))
-    → TellsReasons x.solution.priorities x.solution.board limit first second old new r
-reasoned x limit told first second old new (Ok v) r found inside spelled is wrote e =
-    subst (TellsReasons x.solution.priorities x.solution.board limit first second old new) (sym e) (record {
-      l = system_of x;
-      f = formula_found x;
+-- What is told of a play is the answer and a play that shows it.
+pub reasoned : (rule : Priorities) (board : BoardKind) (limit : ℕ) (first second : List ℕ) (x : PlayFound) (told : PlayVisits) (answer : Bool)
+    (Writes : List ℕ → Type 0) → IsPlayFound rule board x → (system_played x).initial < (system_played x).states
+    → answer ≡ slice_index_or x.marks.items (system_played x).initial false → AreSpelled first second (system_played x) (formula_played x)
+    → IsToldBy (system_played x) (normal_nodes x.form) (arc_value x.game) x.evidence.evidence limit told
+    → Writes (reasons (formula_played x) answer (system_played x) (normal_nodes x.form) told.most told.visits.items told.heads.items told.count)
+    → HasGivenReasons rule (Some board) limit first second answer Writes
+reasoned rule board limit first second x told answer Writes found inside e spelled is wrote =
+    let l = system_played x in
+    let f = formula_played x in
+    let marked = subst (λ a. IsTrue a ↔ Satisfies l f l.initial) (sym e) (found.marks.exact.exact l.initial inside) in
+    let by = subst (λ (h : Game). IsToldBy l (normal_nodes x.form) h x.evidence.evidence limit told) found.play.game is in
+    let lines : AreTold l (normal_nodes x.form) limit told.visits.items told.heads.items told.count =
+    record { evidence = x.evidence.evidence; winners = found.play.winners; telling = by.telling; back = by.back; cut = by.cut } in
+    record {
+      l = l;
+      f = f;
       spelled = spelled;
       within = found.marks.within;
-      answered = found.marks.exact.exact (system_of x).initial inside;
+      answered = marked;
       text = _;
-      why = why_told x limit told found is;
+      why = record {
+        visits = told.visits.items;
+        heads = told.heads.items;
+        count = told.count;
+        told = subst (λ (ns : List Node). AreTold l ns limit told.visits.items told.heads.items told.count) found.form lines;
+        is = λ j. reasons f answer l (found.form j) (is.most j) told.visits.items told.heads.items told.count;
+      };
       written = wrote;
-    })
-reasoned x limit told first second old new (Err fault) r found inside spelled is wrote e =
-    subst (TellsReasons x.solution.priorities x.solution.board limit first second old new) (sym e) (
-      slice_index_or x.marks.items (system_of x).initial false,
-      record {
-        l = system_of x;
-        f = formula_found x;
-        spelled = spelled;
-        within = found.marks.within;
-        answered = found.marks.exact.exact (system_of x).initial inside;
-        text = _;
-        why = why_told x limit told found is;
-        written = wrote;
-      },
-    )
-
--- What was found one way is told of it.
-pub reasons_by_way : (p rule : Priorities) (b board : Option BoardKind) (limit : ℕ) (first second : List ℕ) (old new : Taken) (r : Result Bool MuError)
-    → ◌≡◌ {A = Way} (ByGame p b) (ByGame rule board)
-    → TellsReasons p b limit first second old new r → TellsReasons rule board limit first second old new r
-reasons_by_way p rule b board limit first second old new r e h =
-    let same : p ≡ rule = cc in
-    let also : b ≡ board = cc in
-    subst (λ q. TellsReasons q board limit first second old new r) same (subst (λ q. TellsReasons p q limit first second old new r) also h)
+    }

@@ -1,11 +1,11 @@
 -- Evidence that has the initial state's vertex with the root node.
 use Rattle.std.proofs.Common.{◌≡◌, ◌<◌, ℕ, Bool, true, false, Some, inl, inr, refl, sym, ap, ◌∙◌, subst, true≢false}
-use Rattle.std.specs.Prelude.{IsTrue, ◌↔◌, ◌⊎◌, IfOk, IfSome, List, Option, None, Result, Ok, Err, map, slice_index_or}
+use Rattle.std.specs.Prelude.{IsTrue, ◌↔◌, ◌⊎◌, List, slice_index_or}
 use Rattle.std.specs.Arc.{arc_value}
 use Rattle.systems.specs.Numbered.{IsInside, system_with}
+use Rattle.systems.specs.System.{System}
 use Rattle.systems.specs.declared.system.Transition.{Transition}
 use Rattle.calculus.specs.Admitted.{IsAdmitted}
-use Rattle.calculus.specs.Closed.{closed_formula}
 use Rattle.calculus.specs.Meaning.{MarksOf}
 use Rattle.calculus.specs.Tree.{Formula}
 use Rattle.calculus.specs.Nodes.{Node}
@@ -20,14 +20,11 @@ use Rattle.laws.specs.Laws.{ChosenIsAdmissible}
 use Rattle.evidence.specs.Best.{IsEvenOf, IsOddOf}
 use Rattle.evidence.specs.Evidence.{IsEvidence, IsGood, has}
 use Rattle.evidence.specs.View.{NamedEvidence}
-use Rattle.evidence.specs.declared.error.EvidenceError.{EvidenceError}
-use Rattle.witness.specs.Witness.{GoesOneWay, HasTaken, IsWinners, IsWitness, root_of}
+use Rattle.witness.specs.Witness.{GoesOneWay, HasTaken, IsShown, IsWitness, root_of}
 use Rattle.game.specs.Arena.{arena, place_in}
-use Rattle.why.specs.Story.{modality_of}
-use Rattle.engines.specs.Reasons.{AreToldOf, IsToldBy}
-use Rattle.engines.specs.declared.reasons.PlayVisits.{PlayVisits}
 use Rattle.requests.specs.Roots.{WinsRoot}
 use Rattle.requests.specs.declared.texts.Texts.{Texts}
+use Rattle.engines.specs.Play.{IsPlay}
 use Rattle.engines.specs.Prepared.{AreShown, IsWinning}
 use Rattle.verdicts.specs.Findings.{AreFindings, formula_found, system_of}
 use Rattle.verdicts.specs.declared.findings.Findings.{Findings}
@@ -66,123 +63,65 @@ odd_there x found inside one game mark v at =
 
 -- the initial state's vertex with the root node
 abbrev root_in : Findings → ℕ
-root_in x = root_of (system_of x) (nodes_with x.solution.priorities (formula_found x))
+root_in x = root_of (system_of x) (normal_nodes x.solution.form)
+
+arena_in : (x : Findings) → AreFindings x → game_in x ≡ arena (system_of x) (normal_nodes x.solution.form)
+arena_in x found = found.solution.game.same ∙ ap (arena (system_of x)) (sym found.solution.form)
 
 root_at : (x : Findings) → AreFindings x → place_in (game_in x) (system_of x).initial 0 ≡ Some (root_in x)
-root_at x found = ap (λ (g : Game). place_in g (system_of x).initial 0) found.solution.game.same
+root_at x found = ap (λ (g : Game). place_in g (system_of x).initial 0) (arena_in x found)
+
+-- Good evidence that has this vertex is the winner's.
+pub played : (l : System) (nodes : List Node) (g : Game) (e : NamedEvidence) → g ≡ arena l nodes → e.game ≡ g → IsEvidence e.game e.evidence
+    → IsGood g e.evidence → IsTrue (has e.evidence (root_of l nodes)) → GoesOneWay g e.evidence ⊎ (IsEvenOf g e.evidence ⊎ IsOddOf g e.evidence)
+    → IsPlay l nodes g e
+played l nodes g e game same is good root kind = record {
+  game = game;
+  same = same;
+  winners = record {
+    evidence = subst (λ (h : Game). IsEvidence h e.evidence) (same ∙ game) is;
+    good = subst (λ (h : Game). IsGood h e.evidence) game good;
+    root = root;
+    kind = subst (λ (h : Game). GoesOneWay h e.evidence ⊎ (IsEvenOf h e.evidence ⊎ IsOddOf h e.evidence)) game kind;
+  };
+}
 
 -- Even's, where the initial state satisfies the formula
 pub even_winning : (x : Findings) (e : NamedEvidence) → AreFindings x → (system_of x).initial < (system_of x).states → mark_in x ≡ true → e.game ≡ game_in x
-    → IsEvenOf (game_in x) e.evidence → IsGood (game_in x) e.evidence
+    → IsEvidence e.game e.evidence → IsEvenOf (game_in x) e.evidence → IsGood (game_in x) e.evidence
     → ((v : ℕ) → IsTrue (has e.evidence v) ↔ Wins (game_in x) v) → IsWinning x e
-even_winning x e found inside mark same even good exact = record {
-  game = same;
-  kind = inr (inl (subst (λ (g : Game). IsEvenOf g e.evidence) (sym same) even));
-  good = subst (λ (g : Game). IsGood g e.evidence) (sym same) good;
-  root = (exact (root_in x)).1 (even_there x found inside mark (root_in x) (root_at x found));
-}
+even_winning x e found inside mark same is even good exact =
+    played (system_of x) (normal_nodes x.solution.form) (game_in x) e (arena_in x found) same is good
+    ((exact (root_in x)).1 (even_there x found inside mark (root_in x) (root_at x found))) (inr (inl even))
 
 -- Odd's, where it doesn't
 pub odd_winning : (x : Findings) (e : NamedEvidence) → AreFindings x → (system_of x).initial < (system_of x).states → OneWins → IsGame (game_in x)
-    → mark_in x ≡ false → e.game ≡ game_in x
+    → mark_in x ≡ false → e.game ≡ game_in x → IsEvidence e.game e.evidence
     → IsOddOf (game_in x) e.evidence → IsGood (game_in x) e.evidence → ((v : ℕ) → IsTrue (has e.evidence v) ↔ OddWins (game_in x) v)
     → IsWinning x e
-odd_winning x e found inside one game mark same odd good exact = record {
-  game = same;
-  kind = inr (inr (subst (λ (g : Game). IsOddOf g e.evidence) (sym same) odd));
-  good = subst (λ (g : Game). IsGood g e.evidence) (sym same) good;
-  root = (exact (root_in x)).1 (odd_there x found inside one game mark (root_in x) (root_at x found));
-}
+odd_winning x e found inside one game mark same is odd good exact =
+    played (system_of x) (normal_nodes x.solution.form) (game_in x) e (arena_in x found) same is good
+    ((exact (root_in x)).1 (odd_there x found inside one game mark (root_in x) (root_at x found))) (inr (inr odd))
 
--- Odd's, where it is made
-pub odd_found : (x : Findings) (g : Game) (r : Result NamedEvidence EvidenceError) → AreFindings x → (system_of x).initial < (system_of x).states → OneWins
-    → IsGame (game_in x) → mark_in x ≡ false
-    → g ≡ game_in x → IfOk r (λ e. e.game ≡ g) → IfOk r (λ e. IsOddOf g e.evidence) → IfOk r (λ e. IsGood g e.evidence)
-    → IfOk r (λ e. (v : ℕ) → IsTrue (has e.evidence v) ↔ OddWins g v)
-    → IfOk r (IsWinning x)
-odd_found x g (Ok e) found inside one game mark same of odd good exact =
-    odd_winning x e found inside one game mark (of ∙ same) (subst (λ (h : Game). IsOddOf h e.evidence) same odd)
-    (subst (λ (h : Game). IsGood h e.evidence) same good)
-    (subst (λ (h : Game). (v : ℕ) → IsTrue (has e.evidence v) ↔ OddWins h v) same exact)
-odd_found x g (Err e) found inside one game mark same of odd good exact = tt
-
--- that of a play that goes one way, where it is found, of the texts as they are read off what was found
-pub one_way_found : (x : Findings) (g : Game) (t : Texts) (o : Option NamedEvidence) → AreFindings x → g ≡ game_in x → t ≡ x.texts.value
-    → IfSome o (λ e. e.game ≡ g) → IfSome o (λ e. IsGood g e.evidence)
-    → IfSome o (λ e. IsTrue (has e.evidence (root_of t.system.system (normal_nodes x.solution.form))))
-    → IfSome o (λ e. GoesOneWay g e.evidence)
-    → IfSome o (IsWinning x)
-one_way_found x g t None found same at game good root one = tt
-one_way_found x g t (Some e) found same at game good root one = record {
-  game = game ∙ same;
-  good = subst (λ (h : Game). IsGood h e.evidence) (sym game) good;
-  root = subst (λ (ns : List Node). IsTrue (has e.evidence (root_of (system_of x) ns))) found.solution.form
-      (subst (λ (y : Texts). IsTrue (has e.evidence (root_of y.system.system (normal_nodes x.solution.form)))) at root);
-  kind = inl (subst (λ (h : Game). GoesOneWay h e.evidence) (sym game) one);
-}
-
--- Such evidence is the winner's.
-pub winners_of : (x : Findings) (e : NamedEvidence) → AreFindings x → IsWinning x e → IsEvidence e.game e.evidence
-    → IsWinners (system_of x) (nodes_with x.solution.priorities (formula_found x)) e.evidence
-winners_of x e found win is =
-    let game = win.game ∙ found.solution.game.same in
-    record {
-      evidence = subst (λ (g : Game). IsEvidence g e.evidence) game is;
-      good = subst (λ (g : Game). IsGood g e.evidence) game win.good;
-      root = win.root;
-      kind = subst (λ (g : Game). GoesOneWay g e.evidence ⊎ (IsEvenOf g e.evidence ⊎ IsOddOf g e.evidence)) game win.kind;
-    }
-
--- What the play by such evidence takes is shown.
-shown_by : (x : Findings) (e : NamedEvidence) (nodes : List Node) (part : List Transition) → ChosenIsAdmissible → AreFindings x → IsWinning x e
-    → IsEvidence e.game e.evidence → nodes ≡ nodes_with x.solution.priorities (formula_found x) → IsInside x.texts.value.system part
-    → HasTaken (system_of x) nodes e.evidence (system_with x.texts.value.system part)
-    → ((f : Formula) → IsAdmitted f → IsNodes (normal_form f) nodes → IsWitness (system_of x) f (system_with x.texts.value.system part))
-    → AreShown x part
-shown_by x e nodes part chosen found win is same inside taken witness =
-    let rule = x.solution.priorities in
-    let f = formula_found x in
-    let admitted = x.texts.value.formula.admitted in
-    record {
-      inside = inside;
-      shown = record {
-        evidence = e.evidence;
-        winners = winners_of x e found win is;
-        taken = subst (λ (ns : List Node). HasTaken (system_of x) ns e.evidence (system_with x.texts.value.system part)) same taken;
-        witness = witness f admitted (subst (IsNodes (normal_form f)) (sym same) (chosen rule f admitted));
-      };
-    }
-
--- What the play by such evidence takes is shown, of the texts as they are read off what was found.
+-- What such a play takes is shown, of the texts as they are read off what was found.
 pub shown_at : (x : Findings) (e : NamedEvidence) (t : Texts) (part : List Transition) → t ≡ x.texts.value
-    → ChosenIsAdmissible → AreFindings x → IsWinning x e → IsEvidence e.game e.evidence → IsInside t.system part
+    → ChosenIsAdmissible → AreFindings x → IsWinning x e → IsInside t.system part
     → HasTaken t.system.system (normal_nodes x.solution.form) e.evidence (system_with t.system part)
     → ((f : Formula) → IsAdmitted f → IsNodes (normal_form f) (normal_nodes x.solution.form) → IsWitness t.system.system f (system_with t.system part))
     → AreShown x part
-shown_at x e t part at chosen found win is inside taken witness =
+shown_at x e t part at chosen found win inside taken witness =
     let ns = normal_nodes x.solution.form in
-    shown_by x e ns part chosen found win is found.solution.form
-    (subst (λ (y : Texts). IsInside y.system part) at inside)
-    (subst (λ (y : Texts). HasTaken y.system.system ns e.evidence (system_with y.system part)) at taken)
-    (subst (λ (y : Texts). (f : Formula) → IsAdmitted f → IsNodes (normal_form f) ns → IsWitness y.system.system f (system_with y.system part)) at witness)
-
--- Visits that tell the play by such evidence are told, of the texts and the game as they are read off what was found.
-pub told_at : (x : Findings) (e : NamedEvidence) (g : Game) (t : Texts) (limit : ℕ) (told : PlayVisits) → AreFindings x → IsWinning x e
-    → IsEvidence e.game e.evidence → g ≡ game_in x → t ≡ x.texts.value
-    → IsToldBy t.system.system (normal_nodes x.solution.form) g e.evidence limit told → AreToldOf x limit told
-told_at x e g t limit told found win is at_g at_t by =
-    let nodes = nodes_with x.solution.priorities (formula_found x) in
-    let here = subst (λ (h : Game). IsToldBy (system_of x) (normal_nodes x.solution.form) h e.evidence limit told) (at_g ∙ found.solution.game.same)
-    (subst (λ (y : Texts). IsToldBy y.system.system (normal_nodes x.solution.form) g e.evidence limit told) at_t by) in
-    let all = subst (λ (ns : List Node). IsToldBy (system_of x) ns (arena (system_of x) nodes) e.evidence limit told) found.solution.form here in
+    let rule = x.solution.priorities in
+    let f = formula_found x in
+    let admitted = x.texts.value.formula.admitted in
+    let here : (d : Formula) → IsAdmitted d → IsNodes (normal_form d) ns → IsWitness (system_of x) d (system_with x.texts.value.system part) =
+    subst (λ (y : Texts). (d : Formula) → IsAdmitted d → IsNodes (normal_form d) ns → IsWitness y.system.system d (system_with y.system part)) at witness in
     record {
-      most = all.most;
-      lines = record {
+      inside = subst (λ (y : Texts). IsInside y.system part) at inside;
+      shown = subst (λ (xs : List Node). IsShown (system_of x) f xs (system_with x.texts.value.system part)) found.solution.form (record {
         evidence = e.evidence;
-        winners = winners_of x e found win is;
-        telling = all.telling;
-        back = all.back;
-        cut = all.cut;
-      };
-      texts = here.texts;
+        winners = win.winners;
+        taken = subst (λ (y : Texts). HasTaken y.system.system ns e.evidence (system_with y.system part)) at taken;
+        witness = here f admitted (subst (IsNodes (normal_form f)) (sym found.solution.form) (chosen rule f admitted));
+      });
     }

@@ -8,7 +8,6 @@ use Rattle.calculus.specs.Tree.{Formula}
 use Rattle.calculus.specs.Meaning.{Satisfies}
 use Rattle.calculus.specs.declared.limits.TheConstants.{MOST_NODES}
 use Rattle.calculus.specs.declared.priorities.Priorities.{Priorities}
-use Rattle.calculus.specs.Normal.{normal_nodes}
 use Rattle.calculus.specs.Rules.{nodes_with}
 use Rattle.calculus.specs.Nodes.{Node}
 use Rattle.game.specs.Arena.{arena}
@@ -24,9 +23,7 @@ use Rattle.requests.specs.declared.error.MuError.TheVariants as error
 use Rattle.requests.specs.Check.{AreSpelled, ByGame, RefusesCheck, CanBeFound}
 use Rattle.requests.specs.Report.{formula_line}
 use Rattle.requests.specs.Writers.{WitnessText, lent_for}
-use Rattle.verdicts.specs.declared.findings.Findings.{Findings}
 use Rattle.engines.specs.declared.reasons.PlayVisits.{PlayVisits}
-use Rattle.verdicts.specs.Findings.{formula_found, system_of}
 
 -- how many visits are made at most: many enough for the lines that are told, of which there are at most so many, where that isn't 0
 abbrev pub most_visits : (limit : ℕ) → ℕ
@@ -83,9 +80,3 @@ pub record IsToldBy (l : System) (ns : List Node) (g : Game) (e : Evidence) (lim
   pub back : AreHeads told.visits.items told.heads.items
   pub cut : IsCut ns told.visits.items told.heads.items limit told.count
   pub texts : map (λ text. text.items) told.modalities.items ≡ map modality_of ns
-
--- So it is of what was found, by the winner's evidence.
-pub record AreToldOf (x : Findings) (limit : ℕ) (told : PlayVisits) : Type 0 where
-  pub most : told.most ≡ most_visits limit
-  pub lines : AreTold (system_of x) (nodes_with x.solution.priorities (formula_found x)) limit told.visits.items told.heads.items told.count
-  pub texts : map (λ text. text.items) told.modalities.items ≡ map modality_of (normal_nodes x.solution.form)

@@ -7,6 +7,7 @@ mod game_text;
 mod least;
 pub mod named;
 mod outputs;
+mod play;
 mod prepared;
 pub mod reasons;
 

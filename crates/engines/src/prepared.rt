@@ -4,22 +4,25 @@ ghost use Rattle.std.specs.Prelude.{◌≡◌, ◌<◌, IfOk, IfErr, IfSome, IsT
 ghost use Rattle.std.specs.Arc.{arc_value};
 ghost use Rattle.std.specs.Option.{is_some};
 ghost use Rattle.engines.specs.declared.prepared.WitnessText.{WitnessText};
-ghost use Rattle.engines.specs.Prepared.{ArePrepared, AreShown, IsUnprepared, IsUnshown, IsWinning};
+ghost use Rattle.engines.specs.Play.{IsUnshown};
+ghost use Rattle.engines.specs.Prepared.{ArePrepared, AreShown, IsUnprepared, IsWinning};
 ghost use Rattle.verdicts.specs.Findings.{AreFindings, IsPairOf, formula_found, system_of};
 ghost use Rattle.requests.specs.Report.{report_in};
 
+use crate::play::lasso;
 use evidence::error::EvidenceError;
 use evidence::evidence::Evidence;
 use evidence::make::even_evidence;
 use evidence::pair::EvidencePair;
-use lassos::making::one_way_evidence;
+use game::graph::Game;
 use laws::chosen_is_admissible;
 use laws::games::one_wins;
 use lts::Transition;
+use measures::table::Settled;
 use requests::error::MuError;
 use requests::report::report_text;
 use requests::request::{ReportForm, Wanted, WitnessForm};
-use std::alloc::Global;
+use std::alloc::{AllocError, Global};
 use verdicts::findings::{Findings, odd_evidence_found};
 use verdicts::lifting::SolvedGame;
 use verdicts::pairs::evidence_pair;
@@ -176,7 +179,19 @@ fn one_way(alloc: Global, found: &Findings) -> Result<Option<Evidence>, MuError>
         ..
     } = &found.solution;
     let system = &found.texts.system;
-    Ok(one_way_evidence(alloc, system, form, game, settled)?)
+    let even_wins = even_marks(alloc, game, settled)?;
+    Ok(lasso(alloc, system, form, game, &even_wins)?)
+}
+
+/// A mark for each vertex, true where Even wins it.
+fn even_marks(alloc: Global, game: &Game, settled: &Settled) -> Result<Vec<bool>, AllocError>
+    requires { settled.now.game ≡ game.now }
+{
+    let mut marks = Vec::with_capacity(alloc, game.vertices() as usize)?;
+    for v in 0..game.vertices() {
+        marks.push(!settled.is_top(v))?;
+    }
+    Ok(marks)
 }
 
 /// The winner's of both players' evidence.
@@ -187,6 +202,8 @@ fn winners_in<'a>(found: &Findings, pair: &'a EvidencePair) -> &'a Evidence
 {
     one_wins();
     found.solution.game.known();
+    pair.even.known();
+    pair.odd.known();
     if initial_mark(found) {
         &pair.even
     } else {
@@ -195,7 +212,7 @@ fn winners_in<'a>(found: &Findings, pair: &'a EvidencePair) -> &'a Evidence
 }
 
 /// The evidence of the player who wins the initial state's vertex with the root node.
-fn winner_evidence(alloc: Global, found: &Findings) -> Result<Evidence, EvidenceError>
+pub(crate) fn winner_evidence(alloc: Global, found: &Findings) -> Result<Evidence, EvidenceError>
     requires { AreFindings found.now }
     ensures winning { IfOk result (IsWinning found.now) }
     ensures memory { IfErr result (λ e. e ≡ EvidenceError.Memory) }
@@ -204,9 +221,13 @@ fn winner_evidence(alloc: Global, found: &Findings) -> Result<Evidence, Evidence
     let game = &found.solution.game;
     game.known();
     if initial_mark(found) {
-        even_evidence(alloc, game, &found.solution.settled)
+        let evidence = even_evidence(alloc, game, &found.solution.settled)?;
+        evidence.known();
+        Ok(evidence)
     } else {
-        odd_evidence_found(alloc, found)
+        let evidence = odd_evidence_found(alloc, found)?;
+        evidence.known();
+        Ok(evidence)
     }
 }
 
@@ -218,7 +239,6 @@ fn part_by(alloc: Global, found: &Findings, evidence: &Evidence) -> Result<Vec<T
     ensures refusal { IfErr result IsUnshown }
 {
     chosen_is_admissible();
-    evidence.known();
     let SolvedGame { form, game, .. } = &found.solution;
     let system = &found.texts.system;
     Ok(witness(alloc, system, form, game, evidence)?)

@@ -1,6 +1,7 @@
 // Why the initial state satisfies a formula, or doesn't: the verdict and a play that shows it, as a person reads it.
 
-ghost use Rattle.std.specs.Prelude.{◌≡◌, ◌<◌, ◌++◌, ℕ, List, Some, IfOk, IfErr, IsTrue, slice_index_or, false};
+ghost use Rattle.std.specs.Prelude.{◌≡◌, ◌<◌, ◌≤◌, ◌++◌, ℕ, List, Some, IfOk, IfErr, IsTrue, false, length, map};
+ghost use Rattle.std.specs.Arc.{arc_value};
 ghost use Rattle.text.specs.Pieces.{line_end};
 ghost use Rattle.calculus.specs.Closed.{closed_formula};
 ghost use Rattle.text.specs.Wrote.{Wrote};
@@ -10,14 +11,12 @@ ghost use Rattle.calculus.specs.Normal.{normal_nodes};
 ghost use Rattle.game.specs.Arena.{arena};
 ghost use Rattle.evidence.specs.Evidence.{IsGood, has as has_entry};
 ghost use Rattle.witness.specs.Witness.{root_of};
-ghost use Rattle.why.specs.Story.{has_branch as has_branch_of, story_text, verdict_text};
-ghost use Rattle.engines.specs.Prepared.{IsUnshown, IsWinning};
-ghost use Rattle.verdicts.specs.Findings.{AreFindings, formula_found, system_of};
-ghost use Rattle.engines.specs.Reasons.{AreToldOf, IsToldBy, TellsReasons, most_visits as most_visits_of, reasons};
+ghost use Rattle.why.specs.Story.{has_branch as has_branch_of, modality_of, story_text, verdict_text};
+ghost use Rattle.engines.specs.Play.{IsPlay, IsPlayFound, formula_played, system_played};
+ghost use Rattle.engines.specs.Reasons.{IsToldBy, TellsReasons, most_visits as most_visits_of, reasons};
 ghost use Rattle.engines.specs.StrictReasons.{TellsWhyBy};
 
-use crate::outputs::answer;
-use crate::prepared::{initial_mark, winning_evidence};
+use crate::play::{PlayFound, find_play, initial_answer};
 use calculus::form::Normal;
 use calculus::limits::MOST_NODES;
 use evidence::evidence::Evidence;
@@ -33,9 +32,6 @@ use std::alloc::Global;
 use std::hash::BuildHasher;
 use text::sink::Sink;
 use text::source::Source;
-use verdicts::findings::{Findings, find_in};
-use verdicts::lifting::SolvedGame;
-use verdicts::proposing::least_found;
 use why::setting::{has_branch, heads, modality_texts, told_within, verdict};
 use why::visit::Visit;
 use why::walk::telling;
@@ -99,61 +95,46 @@ fn tell_read<W: Sink, U: Watcher, H: Runtime>(
         (W.taken out.new) result }
     ensures cause { IfErr result (HaveCauses false false) }
 {
-    let least = least_found(alloc, &texts, &request.options, watcher);
-    let found = find_in(rt, alloc, texts, least, &request.options, watcher)?;
-    watcher.sees(Stage::MakingEvidence {
-        vertices: found.solution.game.vertices(),
-    });
-    tell_found(alloc, &found, request.limit, out, watcher)
+    let found = find_play(rt, alloc, texts, &request.options, watcher)?;
+    tell_found(alloc, &found, request, out, watcher)
 }
 
-/// Tells why, where this was found out.
+/// Tells why, where the play was found.
 fn tell_found<W: Sink, U: Watcher>(
     alloc: Global,
-    found: &Findings,
-    limit: u32,
+    found: &PlayFound,
+    request: &Why<'_>,
     out: &mut W,
     watcher: &U,
 ) -> Result<bool, MuError>
-    requires { AreFindings found.now }
-    ensures tells { (first second : List ℕ) → AreSpelled first second (system_of found.now) (formula_found found.now)
-        → TellsReasons found.now.solution.priorities found.now.solution.board limit first second (W.taken out.old) (W.taken out.new) result }
+    requires { IsPlayFound request.now.options.priorities request.now.options.board found.now }
+    ensures tells { (first second : List ℕ) → AreSpelled first second (system_played found.now) (formula_played found.now)
+        → let r = request.now in TellsReasons r.options.priorities (Some r.options.board) r.limit first second (W.taken out.old)
+        (W.taken out.new) result }
     ensures cause { IfErr result (HaveCauses false false) }
 {
-    let told = told_of(alloc, found, limit)?;
+    let told = told_of(alloc, found, request.limit)?;
     watcher.sees(Stage::Writing);
-    // For the proof: the clauses of this call say what the system has.
-    let _initial = found.texts.system.initial();
-    let wrote = put_reasons(found, &told, out);
-    answer(found, wrote)
+    let answer = initial_answer(found);
+    match put_reasons(found, answer, &told, out) {
+        Ok(()) => Ok(answer),
+        Err(fault) => Err(MuError::Write(fault)),
+    }
 }
 
-/// What is told of the answer.
-fn told_of(alloc: Global, found: &Findings, limit: u32) -> Result<PlayVisits, MuError>
-    requires { AreFindings found.now }
-    ensures told { IfOk result (AreToldOf found.now limit) }
-    ensures refusal { IfErr result IsUnshown }
+/// What is told of the play.
+fn told_of(alloc: Global, found: &PlayFound, limit: u32) -> Result<PlayVisits, Memory>
+    requires { IsPlay (system_played found.now) (normal_nodes found.now.form) (arc_value found.now.game) found.now.evidence }
+    ensures { IfOk result (IsToldBy (system_played found.now) (normal_nodes found.now.form) (arc_value found.now.game) found.now.evidence.evidence limit) }
 {
-    let evidence = winning_evidence(alloc, found)?;
-    told_by(alloc, found, &evidence, limit)
-}
-
-/// What is told of the play by this evidence.
-fn told_by(
-    alloc: Global,
-    found: &Findings,
-    evidence: &Evidence,
-    limit: u32,
-) -> Result<PlayVisits, MuError>
-    requires found { AreFindings found.now }
-    requires winning { IsWinning found.now evidence.now }
-    ensures told { IfOk result (AreToldOf found.now limit) }
-    ensures refusal { IfErr result IsUnshown }
-{
-    evidence.known();
-    let SolvedGame { form, game, .. } = &found.solution;
-    let system = &found.texts.system;
-    Ok(tell_by(alloc, system, form, game, evidence, limit)?)
+    let PlayFound {
+        texts,
+        form,
+        game,
+        evidence,
+        ..
+    } = found;
+    tell_by(alloc, &texts.system, form, game, evidence, limit)
 }
 
 /// What is told of the play by evidence, in the game of a system and a normal form.
@@ -199,44 +180,45 @@ fn most_visits(limit: u32) -> usize
     }
 }
 
-/// Writes what is told.
-fn put_reasons<W: Sink>(found: &Findings, told: &PlayVisits, out: &mut W) -> Result<(), WriteFault>
-    requires found { AreFindings found.now }
-    requires told { (limit : ℕ) × AreToldOf found.now limit told.now }
-    ensures { let l = system_of found.now in Wrote (W.taken out.old) (W.taken out.new) result
-        (reasons (formula_found found.now) (slice_index_or found.now.marks.items l.initial false) l (normal_nodes found.now.solution.form)
-        told.now.most told.now.visits.items told.now.heads.items told.now.count) }
+/// Writes what is told, and that this is the answer.
+fn put_reasons<W: Sink>(
+    found: &PlayFound,
+    answer: bool,
+    told: &PlayVisits,
+    out: &mut W,
+) -> Result<(), WriteFault>
+    requires texts { map (λ text. text.items) told.now.modalities.items ≡ map modality_of (normal_nodes found.now.form) }
+    requires within { told.now.count ≤ length told.now.visits.items }
+    ensures { Wrote (W.taken out.old) (W.taken out.new) result
+        (reasons (formula_played found.now) answer (system_played found.now) (normal_nodes found.now.form) told.now.most told.now.visits.items
+        told.now.heads.items told.now.count) }
 {
     write_formula_line(&found.texts.formula, out)?;
-    put_verdict(found, told, out)?;
+    put_verdict(answer, told, out)?;
     put_story(found, told, out)
 }
 
 /// Writes whether the initial state satisfies the formula, and whether one run shows it or several do.
-fn put_verdict<W: Sink>(found: &Findings, told: &PlayVisits, out: &mut W) -> Result<(), WriteFault>
-    requires { AreFindings found.now }
-    ensures { Wrote (W.taken out.old) (W.taken out.new) result
-        (verdict_text (slice_index_or found.now.marks.items (system_of found.now).initial false) (has_branch_of told.now.visits.items) ++ line_end) }
+fn put_verdict<W: Sink>(answer: bool, told: &PlayVisits, out: &mut W) -> Result<(), WriteFault>
+    ensures { Wrote (W.taken out.old) (W.taken out.new) result (verdict_text answer (has_branch_of told.now.visits.items) ++ line_end) }
 {
     let several = has_branch(&told.visits);
     put_pieces(
         out,
-        &[
-            Piece::Bytes(verdict(initial_mark(found), several)),
-            Piece::Bytes(b"\n"),
-        ],
+        &[Piece::Bytes(verdict(answer, several)), Piece::Bytes(b"\n")],
     )
 }
 
 /// Writes the lines of the visits.
-fn put_story<W: Sink>(found: &Findings, told: &PlayVisits, out: &mut W) -> Result<(), WriteFault>
-    requires { (limit : ℕ) × AreToldOf found.now limit told.now }
+fn put_story<W: Sink>(found: &PlayFound, told: &PlayVisits, out: &mut W) -> Result<(), WriteFault>
+    requires texts { map (λ text. text.items) told.now.modalities.items ≡ map modality_of (normal_nodes found.now.form) }
+    requires within { told.now.count ≤ length told.now.visits.items }
     ensures { Wrote (W.taken out.old) (W.taken out.new) result
-        (story_text (system_of found.now) (normal_nodes found.now.solution.form) told.now.most told.now.visits.items told.now.heads.items told.now.count) }
+        (story_text (system_played found.now) (normal_nodes found.now.form) told.now.most told.now.visits.items told.now.heads.items told.now.count) }
 {
     let story = Story {
         system: &found.texts.system,
-        normal: &found.solution.form,
+        normal: &found.form,
         modalities: &told.modalities,
         visits: &told.visits,
         heads: &told.heads,

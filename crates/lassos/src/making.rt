@@ -18,19 +18,16 @@ use game::graph::Game;
 use game::list::List;
 use game::player::Player;
 use lts::Lts;
-use measures::table::Settled;
 use std::alloc::Global;
 use text::Memory;
 use witness::one_way::goes_one_way;
 use witness::part::{has_root, root_vertex};
 
 // For each vertex that the player wins that it is unmet, and for the others that they are lost.
-fn unmet_places(alloc: Global, game: &Game, settled: &Settled, player: Player) -> List<u32>
-    requires { settled.now.game ≡ game.now }
-{
+fn unmet_places(alloc: Global, even_wins: &[bool], player: Player) -> List<u32> {
     let mut places = List::none(alloc);
-    for v in 0..game.vertices() {
-        let is_won = settled.is_top(v) == (player == Player::Odd);
+    for is_even in even_wins {
+        let is_won = *is_even == (player == Player::Even);
         places.push(if is_won { UNMET } else { LOST });
     }
     places
@@ -79,7 +76,8 @@ fn evidence_of(
 }
 
 /// Good evidence of the player who wins the vertex of the initial state with the root, where a play is found there that goes one way from each of its
-/// vertices: a path into a loop. It has as few transitions as are found. The least progress table says who wins.
+/// vertices: a path into a loop. It has as few transitions as are found. A mark for each vertex, true for Even, guesses who wins it. Where the guess is wrong,
+/// or a mark is missing, a play may not be found.
 ///
 /// # Errors
 /// Out of memory.
@@ -88,28 +86,26 @@ pub fn one_way_evidence(
     system: &Lts,
     normal: &Normal,
     game: &Game,
-    settled: &Settled,
+    even_wins: &[bool],
 ) -> Result<Option<Evidence>, Memory>
-    requires game { game.now ≡ arena system.now.system (normal_nodes normal.now) }
-    requires same { settled.now.game ≡ game.now }
-
+    requires { game.now ≡ arena system.now.system (normal_nodes normal.now) }
     ensures game { IfOk result (λ found. IfSome found (λ e. e.game ≡ game.now)) }
     ensures good { IfOk result (λ found. IfSome found (λ e. IsGood game.now e.evidence)) }
     ensures root { IfOk result (λ found. IfSome found (λ e. IsTrue (has_entry e.evidence (root_of system.now.system (normal_nodes normal.now))))) }
     ensures one { IfOk result (λ found. IfSome found (λ e. GoesOneWay game.now e.evidence)) }
 {
     let root = root_vertex(system, normal, game);
-    let player = if settled.is_top(root) {
-        Player::Odd
-    } else {
+    let player = if even_wins.get(root as usize).copied().unwrap_or(false) {
         Player::Even
+    } else {
+        Player::Odd
     };
     let field = Field {
         game,
         nodes: normal.nodes(),
         player,
     };
-    let places = unmet_places(alloc, game, settled, player);
+    let places = unmet_places(alloc, even_wins, player);
     let play_back = find_lasso(alloc, field, places, root)?;
     if play_back.is_empty() {
         return Ok(None);

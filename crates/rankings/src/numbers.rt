@@ -80,8 +80,8 @@ fn shown(columns: &Columns, marked: Marked) -> ColumnView<'_>
     }
 }
 
-// The numbers of a column.
-fn lent(columns: &Columns, column: Column) -> Numbers<'_>
+/// The numbers of a column.
+pub(crate) fn lent(columns: &Columns, column: Column) -> Numbers<'_>
     ensures { number_at result ≡ kept_number columns.now.marks.items (map (λ list. list.items) columns.now.counts.items) (map (λ list. list.items) columns.now.words.items) column }
 {
     match column {

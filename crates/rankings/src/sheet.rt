@@ -6,11 +6,13 @@ ghost use Rattle.rankings.specs.Columns.{number_at};
 ghost use Rattle.rankings.specs.Ranking.{IsRising};
 
 use crate::column::Numbers;
-use crate::numbers::numbers;
+use crate::nodes::is_winner;
+use crate::numbers::{lent, numbers};
 use crate::slope::{Slope, Slopes};
 use crate::slopes::is_of;
 use game::column::Columns;
 use game::player::Player;
+use std::alloc::{AllocError, Global};
 use std::marker::Model;
 
 // The shift of all priorities past the last that has one, by which no bit but the highest counts.
@@ -106,6 +108,25 @@ impl Sheet {
         ensures { number_at result ≡ cell self.now node }
     {
         numbers(&self.columns, node)
+    }
+
+    /// For each vertex of the arena of so many states, in its order, whether the sheet says that Even wins it.
+    pub fn even_wins(&self, alloc: Global, states: u32) -> Result<Vec<bool>, AllocError> {
+        // The sinks.
+        let mut marks = vec![in alloc; true, false]?;
+        for state in 0..states {
+            self.push_marks(&mut marks, state)?;
+        }
+        Ok(marks)
+    }
+
+    // Adds the marks of the vertices of a state.
+    fn push_marks(&self, marks: &mut Vec<bool>, state: u32) -> Result<(), AllocError> {
+        for column in &self.columns.nodes {
+            let number = lent(&self.columns, *column).number(state);
+            marks.push(is_winner(Player::Even, number))?;
+        }
+        Ok(())
     }
 
     // How many bits don't count for a player at a priority.

@@ -16,7 +16,7 @@ ghost use Rattle.requests.specs.Solver.{FitsBoard, IsUnsolved};
 ghost use Rattle.requests.specs.Writers.{AreKept, Lent};
 
 use crate::lifting::{SolvedGame, Winners, state_marks};
-use crate::proposing::LeastFound;
+use crate::proposing::{LeastFound, least_of};
 use calculus::form::Normal;
 use calculus::priorities::Priorities;
 use evidence::decide::certified_winners;
@@ -145,7 +145,7 @@ pub fn find_in<O: Watcher, H: Runtime>(
 }
 
 /// The value in a box.
-fn boxed<T: Drop>(alloc: Global, value: T) -> Result<Box<T>, Memory>
+pub fn boxed<T: Drop>(alloc: Global, value: T) -> Result<Box<T>, Memory>
     ensures { IfOk result (λ held. held.value ≡ value) }
 {
     Ok(Box::new(alloc, value)?)
@@ -202,7 +202,10 @@ fn find_by_least<O: Watcher, H: Runtime>(
 }
 
 /// What is found out of these texts by solving their game.
-fn find_by_game<O: Watcher, H: Runtime>(
+///
+/// # Errors
+/// Those of `find_in`.
+pub fn find_by_game<O: Watcher, H: Runtime>(
     rt: &H,
     alloc: Global,
     texts: Box<Texts>,
@@ -260,7 +263,10 @@ fn build_of<O: Observer, H: Threads + Sync>(
 }
 
 /// Makes the game of these texts with their normal form.
-fn build_with<O: Observer, H: Threads + Sync>(
+///
+/// # Errors
+/// Those of the game; U4.
+pub fn build_with<O: Observer, H: Threads + Sync>(
     rt: &H,
     alloc: Global,
     texts: Box<Texts>,
@@ -345,6 +351,33 @@ fn find_least(
 {
     let settled = Settled::of_proposals(alloc, &posed.game, &least, Player::Even)?;
     find_solved(alloc, posed, Some(options.board), settled, Some(least))
+}
+
+/// What is found out of these texts by the least measures of both players, where a guess of them is found good, and else over the board that the options ask
+/// for.
+///
+/// # Errors
+/// Those of the workers' table; U4.
+pub fn find_guessed<O: Observer + Sync, H: Runtime>(
+    rt: &H,
+    alloc: Global,
+    posed: GameToSolve,
+    options: &Options,
+    observer: &O,
+) -> Result<Findings, MuError>
+    requires posed { ArePosed posed }
+    requires board { FitsBoard (Some options.now.board) (arc_value posed.game) }
+
+    ensures found { IfOk result AreFindings }
+    ensures way { IfOk result (λ found. way_in found ≡ ByGame posed.priorities (Some options.now.board)) }
+    ensures texts { IfOk result (λ found. found.texts.value ≡ posed.texts.value) }
+
+    ensures refusal { IfErr result (IsUnsolved (Some options.now.board) (arc_value posed.game)) }
+{
+    match least_of(alloc, &posed.texts.system, &posed.form) {
+        Some((least, _)) => find_least(alloc, posed, options, least),
+        None => find_posed(rt, alloc, posed, options, observer),
+    }
 }
 
 /// What is found out of these texts, over the board that the options ask for.

@@ -77,20 +77,15 @@ pub struct LeastFound {
     pub moves: Vec<u32>,
 }
 
-// The least measures of both players, as they are guessed and found good.
-fn least_of(alloc: Global, system: &Lts, form: Normal) -> Option<LeastFound>
-    ensures form { IfSome result (λ found. normal_nodes found.form ≡ normal_nodes form) }
-    ensures few { IfSome result (λ _. 2 + system.now.system.states * length (normal_nodes form) ≤ MOST_VERTICES) }
-    ensures least { IfSome result (λ found. AreLeastOf system.now.system (normal_nodes form) found.proposals) }
-    ensures moves { IfSome result (λ found. AreWinnersMoves found.proposals (arena system.now.system (normal_nodes form)) found.moves.items) }
+/// The least measures of both players, as they are guessed and found good, and for each vertex the move of the one who wins it.
+pub(crate) fn least_of(alloc: Global, system: &Lts, form: &Normal) -> Option<(Proposals, Vec<u32>)>
+    ensures few { IfSome result (λ _. 2 + system.now.system.states * length (normal_nodes form.now) ≤ MOST_VERTICES) }
+    ensures least { IfSome result (λ found. AreLeastOf system.now.system (normal_nodes form.now) found.0) }
+    ensures moves { IfSome result (λ found. AreWinnersMoves found.0 (arena system.now.system (normal_nodes form.now)) found.1.items) }
 {
-    let proposals = proposals_of(least_measures(alloc, system, &form)?);
-    let moves = least_moves(alloc, system, &form, &proposals)?;
-    Some(LeastFound {
-        form,
-        proposals,
-        moves,
-    })
+    let proposals = proposals_of(least_measures(alloc, system, form)?);
+    let moves = least_moves(alloc, system, form, &proposals)?;
+    Some((proposals, moves))
 }
 
 /// The least measures of both players, as they are guessed and found good. There are none where the guess isn't good, where a limit is passed, or for want of
@@ -112,7 +107,12 @@ pub fn least_found<O: Observer>(
         Ok(form) => {
             let vertices = 2 + states * form.count();
             observer.sees(Stage::Searching { vertices });
-            least_of(alloc, system, form)
+            let (proposals, moves) = least_of(alloc, system, &form)?;
+            Some(LeastFound {
+                form,
+                proposals,
+                moves,
+            })
         }
         Err(_) => None,
     }
