@@ -8,8 +8,9 @@ use Rattle.text.specs.declared.write_loop.WriteFault.{WriteFault}
 use Rattle.systems.specs.System.{System}
 use Rattle.calculus.specs.Tree.{Formula}
 use Rattle.requests.specs.declared.error.MuError.{MuError}
+use Rattle.requests.specs.declared.texts.Texts.{Texts}
 use Rattle.requests.specs.declared.error.MuError.TheVariants as error
-use Rattle.requests.specs.Check.{Way, BySets, ByGame, AnswersCheck, AreSpelled, AreMarks, IsTextOf}
+use Rattle.requests.specs.Check.{Way, BySets, ByGame, AnswersCheck, AreSpelled, AreMarks, CanBeFound, IsTextOf}
 use Rattle.requests.specs.Check.{RefusesCheck}
 use Rattle.requests.specs.declared.request.WitnessForm.{WitnessForm}
 use Rattle.requests.specs.declared.request.WitnessForm.TheVariants.{System as AsSystem, Drawing}
@@ -20,8 +21,10 @@ use Rattle.requests.specs.declared.request.Wanted.{Wanted}
 use Rattle.requests.specs.Command as request
 use Rattle.requests.specs.Strict.{AnswersBy, KnowsWords}
 use Rattle.engines.specs.Prepared.{IsUnprepared}
-use Rattle.verdicts.specs.Findings.{AreFindings, formula_found, system_of, way_in}
-use Rattle.verdicts.specs.declared.findings.Findings.{Findings}
+use Rattle.engines.specs.Play.{HasNoPlay}
+use Rattle.calculus.specs.declared.priorities.Priorities.{Priorities}
+use Rattle.workers.specs.declared.team.BoardKind.{BoardKind}
+use Rattle.verdicts.proofs.Beyond.{beyond_of}
 
 -- None of the writers of all texts was written to.
 pub kept_writers : (wanted : Wanted) (game even odd witness out : Taken)
@@ -29,21 +32,20 @@ pub kept_writers : (wanted : Wanted) (game even odd witness out : Taken)
 kept_writers wanted game even odd witness out = (Stays-refl game, (Stays-refl even, (Stays-refl odd, (Stays-refl witness, (Stays-refl out, tt)))))
 
 -- No writer was written to before all that is wanted was made, which there was no memory for.
-pub unprepared_of : (x : Findings) (wanted : Wanted) (first second : List ℕ) (writers : List Lent) (e : MuError)
-    → AreSpelled first second (system_of x) (formula_found x)
-    → AreFindings x → AreKept writers → (IsTrue wanted.evidence → IsLentFor EvenText writers)
+pub unprepared_of : (way : Way) (l : System) (f : Formula) (wanted : Wanted) (first second : List ℕ) (writers : List Lent) (e : MuError)
+    → AreSpelled first second l f → CanBeFound way l f → AreKept writers → (IsTrue wanted.evidence → IsLentFor EvenText writers)
     → (IsTrue (is_some wanted.witness) → IsLentFor WitnessText writers ⊎ IsLentFor DrawingText writers) → IsUnprepared wanted e
-    → RefusesCheck (way_in x) first second writers e
-unprepared_of x wanted first second writers e spelled found kept even witness (inl (asked, is)) =
-    subst (RefusesCheck (way_in x) first second writers) (sym is)
-    (record { l = system_of x; f = formula_found x; spelled = spelled; within = found.marks.within; needed = inl (even asked); memory = refl }, kept)
-unprepared_of x wanted first second writers e spelled found kept even witness (inr (inr is)) =
-    subst (RefusesCheck (way_in x) first second writers) (sym is) ((system_of x, spelled.system.spelled), kept)
-unprepared_of x wanted first second writers e spelled found kept even witness (inr (inl (asked, inl is))) =
-    subst (RefusesCheck (way_in x) first second writers) (sym is) ((system_of x, spelled.system.spelled), kept)
-unprepared_of x wanted first second writers e spelled found kept even witness (inr (inl (asked, inr is))) =
-    subst (RefusesCheck (way_in x) first second writers) (sym is)
-    (record { l = system_of x; f = formula_found x; spelled = spelled; within = found.marks.within; needed = inr (witness asked); memory = refl }, kept)
+    → RefusesCheck way first second writers e
+unprepared_of way l f wanted first second writers e spelled within kept even witness (inl (asked, is)) =
+    subst (RefusesCheck way first second writers) (sym is)
+    (record { l = l; f = f; spelled = spelled; within = within; needed = inl (even asked); memory = refl }, kept)
+unprepared_of way l f wanted first second writers e spelled within kept even witness (inr (inr is)) =
+    subst (RefusesCheck way first second writers) (sym is) ((l, spelled.system.spelled), kept)
+unprepared_of way l f wanted first second writers e spelled within kept even witness (inr (inl (asked, inl is))) =
+    subst (RefusesCheck way first second writers) (sym is) ((l, spelled.system.spelled), kept)
+unprepared_of way l f wanted first second writers e spelled within kept even witness (inr (inl (asked, inr is))) =
+    subst (RefusesCheck way first second writers) (sym is)
+    (record { l = l; f = f; spelled = spelled; within = within; needed = inr (witness asked); memory = refl }, kept)
 
 -- What was found one way is found an equal way.
 pub by_way : (p q : Way) (first second : List ℕ) (writers : List Lent) (r : Result Bool MuError) → p ≡ q → AnswersCheck p first second writers r
@@ -68,6 +70,14 @@ answer_of way first second writers l f marks (Ok x) r spelled found written e =
 answer_of way first second writers l f marks (Err fault) r spelled found begun e =
     subst (AnswersCheck way first second writers) (sym e) (record { l = l; f = f; marks = marks; spelled = spelled; found = found; begun = begun })
 
+-- The answer is that of the texts and the marks that these are read off.
+pub answered_at : (ms ns : List Bool) (t u : Texts) (wrote : Result Unit WriteFault) (r : Result Bool MuError) → ms ≡ ns → t ≡ u
+    → MatchResult wrote (λ x. r ≡ Ok (slice_index_or ms t.system.system.initial false)) (λ fault. r ≡ Err (error.Write fault))
+    → MatchResult wrote (λ x. r ≡ Ok (slice_index_or ns u.system.system.initial false)) (λ fault. r ≡ Err (error.Write fault))
+answered_at ms ns t u wrote r same at h =
+    subst (λ (y : Texts). MatchResult wrote (λ x. r ≡ Ok (slice_index_or ns y.system.system.initial false)) (λ fault. r ≡ Err (error.Write fault))) at
+    (subst (λ (xs : List Bool). MatchResult wrote (λ x. r ≡ Ok (slice_index_or xs t.system.system.initial false)) (λ fault. r ≡ Err (error.Write fault))) same h)
+
 -- The writer of a witness that is wanted is lent for it.
 witness_lent : (form : Option WitnessForm) → IsTrue (is_some form) → (witness_kind form ≡ WitnessText) ⊎ (witness_kind form ≡ DrawingText)
 witness_lent None h = absurd (true≢false (sym h))
@@ -75,17 +85,27 @@ witness_lent (Some AsSystem) h = inl refl
 witness_lent (Some Drawing) h = inr refl
 
 -- Nothing was written where what is wanted could not be made.
-pub unprepared_all : (x : Findings) (wanted : Wanted) (first second : List ℕ) (game even odd witness out : Taken) (e : MuError)
-    → AreSpelled first second (system_of x) (formula_found x)
-    → AreFindings x → IsUnprepared wanted e → RefusesCheck (way_in x) first second (all_writers wanted game game even even odd odd witness witness out out) e
-unprepared_all x wanted first second game even odd witness out e spelled found is =
-    unprepared_of x wanted first second (all_writers wanted game game even even odd odd witness witness out out) e spelled found
+pub unprepared_all : (way : Way) (l : System) (f : Formula) (wanted : Wanted) (first second : List ℕ) (game even odd witness out : Taken) (e : MuError)
+    → AreSpelled first second l f → CanBeFound way l f → IsUnprepared wanted e
+    → RefusesCheck way first second (all_writers wanted game game even even odd odd witness witness out out) e
+unprepared_all way l f wanted first second game even odd witness out e spelled within is =
+    unprepared_of way l f wanted first second (all_writers wanted game game even even odd odd witness witness out out) e spelled within
     (kept_writers wanted game even odd witness out)
     (λ h. inr (inl (ap (λ b. kind_where b EvenText) h)))
     (λ h. elim (witness_lent wanted.witness h) [
       | inl k ↦ inl (inr (inr (inr (inl k))))
       | inr k ↦ inr (inr (inr (inr (inl k))))
     ]) is
+
+-- nor where no play was found
+pub unplayed_all : (rule : Priorities) (board : BoardKind) (l : System) (f : Formula) (wanted : Wanted) (first second : List ℕ)
+    (game even odd witness out : Taken) (e : MuError) → IsTrue (is_some wanted.witness) → AreSpelled first second l f → HasNoPlay rule board l f e
+    → RefusesCheck (ByGame rule (Some board)) first second (all_writers wanted game game even even odd odd witness witness out out) e
+unplayed_all rule board l f wanted first second game even odd witness out e asked spelled (inl beyond) =
+    beyond_of rule (Some board) first second (all_writers wanted game game even even odd odd witness witness out out) l f e spelled beyond
+    (kept_writers wanted game even odd witness out)
+unplayed_all rule board l f wanted first second game even odd witness out e asked spelled (inr h) =
+    unprepared_all (ByGame rule (Some board)) l f wanted first second game even odd witness out e spelled h.0 (inr (inl (asked, h.1)))
 
 alone_kept : (form : ReportForm) (game even odd witness old new : Taken) → AreKept (report_writer form old new)
     → AreKept (all_writers (request.report_alone form) game game even even odd odd witness witness old new)

@@ -1,24 +1,21 @@
 -- Texts that are found, and are written one after another.
 use Rattle.text.specs.Taken.{Taken}
-use Rattle.std.proofs.Common.{◌≡◌, Result, Ok, Err, refl, ap, ◌∙◌, subst, sym}
+use Rattle.std.proofs.Common.{◌≡◌, Result, Ok, Err, refl, ap, subst, sym}
 use Rattle.std.specs.Prelude.{IsErrAnd, MatchResult}
-use Rattle.std.specs.Arc.{arc_value}
 use Rattle.game.specs.Game.{Game}
 use Rattle.pgsolver.specs.Canon.{game_text}
-use Rattle.verdicts.specs.declared.findings.Findings.{Findings}
-use Rattle.engines.specs.Prepared.{IsTextFound}
-use Rattle.verdicts.specs.Findings.{AreFindings}
+use Rattle.engines.specs.Prepared.{IsTextFound, Outcome, game_played}
 use Rattle.requests.specs.Writers.{GameText, Unasked, IsWhole, lent_for}
 use Rattle.requests.specs.declared.error.MuError.{MuError}
 use Rattle.requests.proofs.Orders as order
 pub use Rattle.requests.proofs.Orders.{one_text, stopped_at, then_more}
 
 -- the game's text is that of the system and the formula
-pub found_game : (x : Findings) (g : Game) → g ≡ arc_value x.solution.game → AreFindings x → IsTextFound x GameText (game_text g)
-found_game x g e h = ap game_text (e ∙ h.solution.game.same)
+pub found_game : (x : Outcome) (g : Game) → g ≡ game_played x → IsTextFound x GameText (game_text g)
+found_game x g e = ap game_text e
 
 -- Nothing is asked from a writer, and nothing was written to it.
-pub unasked : (x : Findings) (old : Taken) → IsWhole (IsTextFound x) (lent_for Unasked old old)
+pub unasked : (x : Outcome) (old : Taken) → IsWhole (IsTextFound x) (lent_for Unasked old old)
 unasked x old = order.unasked (IsTextFound x) old refl
 
 -- What holds of a refusal holds of the answer where it is handed on.

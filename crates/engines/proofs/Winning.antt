@@ -1,16 +1,18 @@
 -- Evidence that has the initial state's vertex with the root node.
 use Rattle.std.proofs.Common.{◌≡◌, ◌<◌, ℕ, Bool, true, false, Some, inl, inr, refl, sym, ap, ◌∙◌, subst, true≢false}
-use Rattle.std.specs.Prelude.{IsTrue, ◌↔◌, ◌⊎◌, List, slice_index_or}
+use Rattle.std.specs.Prelude.{IsTrue, ◌↔◌, ◌⊎◌, IfOk, List, Result, Ok, Err, slice_index_or}
 use Rattle.std.specs.Arc.{arc_value}
 use Rattle.systems.specs.Numbered.{IsInside, system_with}
 use Rattle.systems.specs.System.{System}
 use Rattle.systems.specs.declared.system.Transition.{Transition}
 use Rattle.calculus.specs.Admitted.{IsAdmitted}
+use Rattle.calculus.specs.Closed.{closed_formula}
 use Rattle.calculus.specs.Meaning.{MarksOf}
 use Rattle.calculus.specs.Tree.{Formula}
 use Rattle.calculus.specs.Nodes.{Node}
 use Rattle.calculus.specs.Normal.{normal_nodes}
 use Rattle.calculus.specs.Rules.{nodes_with}
+use Rattle.calculus.specs.declared.priorities.Priorities.{Priorities}
 use Rattle.calculus.specs.NormalTree.{normal_form}
 use Rattle.game.specs.Game.{Game, IsGame}
 use Rattle.game.specs.Wins.{OddWins, Wins}
@@ -103,25 +105,30 @@ odd_winning x e found inside one game mark same is odd good exact =
     played (system_of x) (normal_nodes x.solution.form) (game_in x) e (arena_in x found) same is good
     ((exact (root_in x)).1 (odd_there x found inside one game mark (root_in x) (root_at x found))) (inr (inr odd))
 
--- What such a play takes is shown, of the texts as they are read off what was found.
-pub shown_at : (x : Findings) (e : NamedEvidence) (t : Texts) (part : List Transition) → t ≡ x.texts.value
-    → ChosenIsAdmissible → AreFindings x → IsWinning x e → IsInside t.system part
-    → HasTaken t.system.system (normal_nodes x.solution.form) e.evidence (system_with t.system part)
-    → ((f : Formula) → IsAdmitted f → IsNodes (normal_form f) (normal_nodes x.solution.form) → IsWitness t.system.system f (system_with t.system part))
-    → AreShown x part
-shown_at x e t part at chosen found win inside taken witness =
-    let ns = normal_nodes x.solution.form in
-    let rule = x.solution.priorities in
-    let f = formula_found x in
-    let admitted = x.texts.value.formula.admitted in
-    let here : (d : Formula) → IsAdmitted d → IsNodes (normal_form d) ns → IsWitness (system_of x) d (system_with x.texts.value.system part) =
-    subst (λ (y : Texts). (d : Formula) → IsAdmitted d → IsNodes (normal_form d) ns → IsWitness y.system.system d (system_with y.system part)) at witness in
+-- What such a play takes is shown.
+shown_of : (rule : Priorities) (t : Texts) (nodes : List Node) (g : Game) (e : NamedEvidence) (part : List Transition) → ChosenIsAdmissible
+    → IsPlay t.system.system nodes g e → IsInside t.system part → HasTaken t.system.system nodes e.evidence (system_with t.system part)
+    → ((f : Formula) → IsAdmitted f → IsNodes (normal_form f) nodes → IsWitness t.system.system f (system_with t.system part))
+    → nodes ≡ nodes_with rule (closed_formula t.formula) → AreShown rule t part
+shown_of rule t nodes g e part chosen play inside taken witness same =
+    let l = t.system.system in
+    let f = closed_formula t.formula in
     record {
-      inside = subst (λ (y : Texts). IsInside y.system part) at inside;
-      shown = subst (λ (xs : List Node). IsShown (system_of x) f xs (system_with x.texts.value.system part)) found.solution.form (record {
+      inside = inside;
+      shown = subst (λ (xs : List Node). IsShown l f xs (system_with t.system part)) same (record {
         evidence = e.evidence;
-        winners = win.winners;
-        taken = subst (λ (y : Texts). HasTaken y.system.system ns e.evidence (system_with y.system part)) at taken;
-        witness = here f admitted (subst (IsNodes (normal_form f)) (sym found.solution.form) (chosen rule f admitted));
+        winners = play.winners;
+        taken = taken;
+        witness = witness f t.formula.admitted (subst (IsNodes (normal_form f)) (sym same) (chosen rule f t.formula.admitted));
       });
     }
+
+-- What is made of such a play, if it is, is shown.
+pub parts_shown : {A E : Type 0} → (items : A → List Transition) (t : Texts) (nodes : List Node) (g : Game) (e : NamedEvidence) (r : Result A E)
+    → ChosenIsAdmissible → IsPlay t.system.system nodes g e → IfOk r (λ p. IsInside t.system (items p))
+    → IfOk r (λ p. HasTaken t.system.system nodes e.evidence (system_with t.system (items p)))
+    → IfOk r (λ p. (f : Formula) → IsAdmitted f → IsNodes (normal_form f) nodes → IsWitness t.system.system f (system_with t.system (items p)))
+    → IfOk r (λ p. (rule : Priorities) → nodes ≡ nodes_with rule (closed_formula t.formula) → AreShown rule t (items p))
+parts_shown items t nodes g e (Ok p) chosen play inside taken witness = λ rule same.
+    shown_of rule t nodes g e (items p) chosen play inside taken witness same
+parts_shown items t nodes g e (Err x) chosen play inside taken witness = tt

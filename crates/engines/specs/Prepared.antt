@@ -1,46 +1,70 @@
 -- What a check by a game makes of what it has found out: the texts that are written of it, and what is made before they are.
-use Rattle.std.specs.Prelude.{◌≡◌, ℕ, ◌⊎◌, List, IfSome, IsTrue, option_map}
+use Rattle.std.specs.Prelude.{◌≡◌, ℕ, ◌⊎◌, Bool, List, Option, Some, IfSome, IsTrue, option_map}
 use Rattle.std.specs.Arc.{arc_value}
 use Rattle.std.specs.Option.{is_some}
 use Rattle.systems.specs.Numbered.{IsInside, system_with}
 use Rattle.systems.specs.declared.system.Transition.{Transition}
+use Rattle.calculus.specs.Closed.{closed_formula}
 use Rattle.calculus.specs.Normal.{normal_nodes}
 use Rattle.calculus.specs.Rules.{nodes_with}
+use Rattle.calculus.specs.declared.priorities.Priorities.{Priorities}
+use Rattle.game.specs.Game.{Game}
 use Rattle.evidence.specs.View.{NamedEvidence}
 use Rattle.evidence.specs.declared.error.EvidenceError.TheVariants as evidence
 use Rattle.witness.specs.Witness.{IsShown}
 use Rattle.requests.specs.declared.error.MuError.{MuError}
 use Rattle.requests.specs.declared.error.MuError.TheVariants as error
 use Rattle.requests.specs.declared.request.Wanted.{Wanted}
+use Rattle.engines.specs.declared.play.PlayFound.{PlayFound}
 use Rattle.engines.specs.declared.prepared.Prepared.{Prepared}
 use Rattle.engines.specs.declared.prepared.WitnessText.{WitnessText}
 use Rattle.verdicts.specs.declared.findings.Findings.{Findings}
-use Rattle.requests.specs.Check.{IsTextOf}
+use Rattle.requests.specs.declared.texts.Texts.{Texts}
+use Rattle.requests.specs.Check.{ByGame, IsTextOf, game_by_rule}
+use Rattle.workers.specs.declared.team.BoardKind.{BoardKind}
 use Rattle.requests.specs.Report.{report_in}
 use Rattle.requests.specs.Writers.{TextKind}
 use Rattle.engines.specs.Play.{IsPlay, IsUnshown}
-use Rattle.verdicts.specs.Findings.{IsPairOf, formula_found, system_of, way_in}
+use Rattle.verdicts.specs.Findings.{IsPairOf, system_of}
+
+-- both texts, the rule and the board by which the states were marked, and their marks
+pub record Outcome : Type 0 where
+  pub rule : Priorities
+  pub board : Option BoardKind
+  pub texts : Texts
+  pub marks : List Bool
+
+-- the game by that rule
+abbrev pub game_played : Outcome → Game
+game_played x = game_by_rule x.rule x.texts.system.system (closed_formula x.texts.formula)
 
 -- the texts that are written of it
-abbrev pub IsTextFound : Findings → TextKind → List ℕ → Type 0
-IsTextFound x = IsTextOf (way_in x) (system_of x) (formula_found x) x.marks.items
+abbrev pub IsTextFound : Outcome → TextKind → List ℕ → Type 0
+IsTextFound x = IsTextOf (ByGame x.rule x.board) x.texts.system.system (closed_formula x.texts.formula) x.marks
+
+abbrev pub outcome_of : Findings → Outcome
+outcome_of x = record { rule = x.solution.priorities; board = x.solution.board; texts = x.texts.value; marks = x.marks.items }
+
+abbrev pub outcome_played : Priorities → BoardKind → PlayFound → Outcome
+outcome_played rule board x = record { rule = rule; board = Some board; texts = x.texts.value; marks = x.marks.items }
 
 -- the play by evidence in the game that was solved
 abbrev pub IsWinning : Findings → NamedEvidence → Type 0
 IsWinning x = IsPlay (system_of x) (normal_nodes x.solution.form) (arc_value x.solution.game)
 
 -- the transitions of a witness
-pub record AreShown (x : Findings) (part : List Transition) : Type 0 where
-  pub inside : IsInside x.texts.value.system part
-  pub shown : IsShown (system_of x) (formula_found x) (nodes_with x.solution.priorities (formula_found x)) (system_with x.texts.value.system part)
+pub record AreShown (rule : Priorities) (t : Texts) (part : List Transition) : Type 0 where
+  pub inside : IsInside t.system part
+  pub shown : IsShown t.system.system (closed_formula t.formula) (nodes_with rule (closed_formula t.formula)) (system_with t.system part)
 
--- The evidence and the witness that are wanted are made, and the report in its form.
-pub record ArePrepared (x : Findings) (p : Prepared) : Type 0 where
-  pub pair : IfSome p.pair (IsPairOf (arc_value x.solution.game))
+-- The game is that of the texts, the evidence and the witness that are wanted are made, and the report in its form.
+pub record ArePrepared (x : Outcome) (g : Game) (p : Prepared) : Type 0 where
+  pub game : g ≡ game_played x
+  pub pair : IfSome p.pair (IsPairOf g)
   pub evidence : is_some p.pair ≡ p.wanted.evidence
-  pub shown : IfSome p.shown (λ shown. AreShown x shown.part.items)
+  pub shown : IfSome p.shown (λ shown. AreShown x.rule x.texts shown.part.items)
   pub form : option_map (λ (shown : WitnessText). shown.form) p.shown ≡ p.wanted.witness
-  pub report : p.report.items ≡ report_in p.wanted.report (system_of x) (formula_found x) x.marks.items
+  pub report : p.report.items ≡ report_in p.wanted.report x.texts.system.system (closed_formula x.texts.formula) x.marks
 
 -- There was no memory for what is wanted.
 abbrev pub IsUnprepared : Wanted → MuError → Type 0

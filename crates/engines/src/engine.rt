@@ -1,6 +1,6 @@
 // The engine that the program calls: from both texts to the report.
 
-ghost use Rattle.std.specs.Prelude.{ℕ, false, List, Some, IfErr, MatchResult};
+ghost use Rattle.std.specs.Prelude.{◌≡◌, ℕ, false, List, Some, IfErr, MatchResult};
 ghost use Rattle.calculus.specs.Closed.{closed_formula};
 ghost use Rattle.requests.specs.Causes.{HaveCauses};
 ghost use Rattle.requests.specs.Check.{Way, BySets, ByGame, AreMarks, AreSpelled, AnswersCheck, IsBeyond, IsErrorOf};
@@ -10,12 +10,13 @@ ghost use Rattle.requests.specs.Writers.{lent_writers, report_writer};
 
 use crate::game_text::{check_game, is_game_alone};
 use crate::least::{check_least, is_evidence_alone};
-use crate::outputs::answer_wanted;
+use crate::outputs::{answer_play, answer_wanted};
+use crate::play::find_play;
 use game::observer::{Observer, Stage};
 use lts::put;
 use requests::error::MuError;
 use requests::report::report_text;
-use requests::request::{Check, Options, ReportForm, Wanted};
+use requests::request::{Check, Options, ReportForm, Wanted, WitnessForm};
 use requests::texts::{Texts, read_asked};
 use requests::watch::Watcher;
 use requests::writers::Writers;
@@ -158,6 +159,11 @@ fn check_by_game<G: Sink, E: Sink, O: Sink, V: Sink, W: Sink, U: Watcher, H: Run
     if is_game_alone(wanted) {
         return check_game(rt, alloc, &texts, options, wanted, writers, watcher);
     }
+    if !wanted.evidence {
+        if let Some(form) = wanted.witness {
+            return check_play(rt, alloc, texts, options, wanted, form, writers, watcher);
+        }
+    }
     let least = least_found(alloc, &texts, options, watcher);
     if is_evidence_alone(wanted) {
         if let Some(least) = &least {
@@ -176,6 +182,29 @@ fn check_by_game<G: Sink, E: Sink, O: Sink, V: Sink, W: Sink, U: Watcher, H: Run
         &mut writers.report,
         watcher,
     )
+}
+
+/// Checks by a play what was read, and writes a witness in this form, the game's text where it is wanted, and the report.
+fn check_play<G: Sink, E: Sink, O: Sink, V: Sink, W: Sink, U: Watcher, H: Runtime>(
+    rt: &H,
+    alloc: Global,
+    texts: Texts,
+    options: &Options,
+    wanted: Wanted,
+    form: WitnessForm,
+    writers: &mut Writers<G, E, O, V, W>,
+    watcher: &U,
+) -> Result<bool, MuError>
+    requires evidence { wanted.evidence ≡ false }
+    requires form { wanted.witness ≡ Some form }
+
+    ensures answers { (first second : List ℕ) → AreSpelled first second texts.system.system (closed_formula texts.formula)
+        → AnswersCheck (ByGame options.now.priorities (Some options.now.board)) first second
+        (lent_writers G.taken E.taken O.taken V.taken W.taken wanted writers.old writers.new) result }
+    ensures cause { IfErr result (HaveCauses false false) }
+{
+    let found = find_play(rt, alloc, texts, options, watcher)?;
+    answer_play(alloc, &found, options, wanted, form, writers, watcher)
 }
 
 /// Checks by a game what was read, and writes the report alone, for which it is enough to know who wins. Where a guess says it, and is good, no

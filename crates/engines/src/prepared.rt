@@ -1,15 +1,20 @@
 // What a check makes of its findings before it begins to write.
 
-ghost use Rattle.std.specs.Prelude.{◌≡◌, ◌<◌, IfOk, IfErr, IfSome, IsTrue, option_map, slice_index_or, false};
+ghost use Rattle.std.specs.Prelude.{◌≡◌, ◌<◌, IfOk, IfErr, IfSome, IsTrue, Some, option_map, slice_index_or, false};
 ghost use Rattle.std.specs.Arc.{arc_value};
 ghost use Rattle.std.specs.Option.{is_some};
 ghost use Rattle.engines.specs.declared.prepared.WitnessText.{WitnessText};
-ghost use Rattle.engines.specs.Play.{IsUnshown};
-ghost use Rattle.engines.specs.Prepared.{ArePrepared, AreShown, IsUnprepared, IsWinning};
+ghost use Rattle.calculus.specs.Closed.{closed_formula};
+ghost use Rattle.calculus.specs.Normal.{normal_nodes};
+ghost use Rattle.calculus.specs.Rules.{nodes_with};
+ghost use Rattle.calculus.specs.declared.priorities.Priorities.{Priorities};
+ghost use Rattle.engines.specs.Play.{IsPlay, IsPlayFound, IsUnshown};
+ghost use Rattle.engines.specs.Prepared.{ArePrepared, AreShown, IsUnprepared, IsWinning, outcome_of, outcome_played};
 ghost use Rattle.verdicts.specs.Findings.{AreFindings, IsPairOf, formula_found, system_of};
 ghost use Rattle.requests.specs.Report.{report_in};
 
-use crate::play::lasso;
+use crate::play::{PlayFound, lasso};
+use calculus::form::Normal;
 use evidence::error::EvidenceError;
 use evidence::evidence::Evidence;
 use evidence::make::even_evidence;
@@ -17,11 +22,12 @@ use evidence::pair::EvidencePair;
 use game::graph::Game;
 use laws::chosen_is_admissible;
 use laws::games::one_wins;
-use lts::Transition;
+use lts::{Memory, Transition};
 use measures::table::Settled;
 use requests::error::MuError;
 use requests::report::report_text;
-use requests::request::{ReportForm, Wanted, WitnessForm};
+use requests::request::{Options, ReportForm, Wanted, WitnessForm};
+use requests::texts::Texts;
 use std::alloc::{AllocError, Global};
 use verdicts::findings::{Findings, odd_evidence_found};
 use verdicts::lifting::SolvedGame;
@@ -50,7 +56,7 @@ pub struct Prepared {
 /// E5 and U4 where memory runs out.
 pub(crate) fn prepare(alloc: Global, found: &Findings, wanted: Wanted) -> Result<Prepared, MuError>
     requires { AreFindings found.now }
-    ensures prepared { IfOk result (ArePrepared found.now) }
+    ensures prepared { IfOk result (ArePrepared (outcome_of found.now) (arc_value found.now.solution.game)) }
     ensures wanted { IfOk result (λ prepared. prepared.wanted ≡ wanted) }
     ensures refusal { IfErr result (IsUnprepared wanted) }
 {
@@ -69,7 +75,7 @@ fn prepare_beside(
     requires pair { IfSome pair (IsPairOf (arc_value found.now.solution.game)) }
     requires evidence { is_some pair ≡ wanted.evidence }
 
-    ensures prepared { IfOk result (ArePrepared found.now) }
+    ensures prepared { IfOk result (ArePrepared (outcome_of found.now) (arc_value found.now.solution.game)) }
     ensures wanted { IfOk result (λ prepared. prepared.wanted ≡ wanted) }
 
     ensures refusal { IfErr result (IsUnprepared wanted) }
@@ -121,7 +127,7 @@ fn shown_where(
     requires found { AreFindings found.now }
     requires pair { IfSome pair.now (IsPairOf (arc_value found.now.solution.game)) }
 
-    ensures shown { IfOk result (λ shown. IfSome shown (λ x. AreShown found.now x.part.items)) }
+    ensures shown { IfOk result (λ shown. IfSome shown (λ x. AreShown found.now.solution.priorities found.now.texts.value x.part.items)) }
     ensures form { IfOk result (λ shown. option_map (λ (x : WitnessText). x.form) shown ≡ form) }
 
     ensures refusal { IfErr result (λ e. IsTrue (is_some form) × IsUnshown e) }
@@ -142,7 +148,7 @@ fn part_of(
 ) -> Result<Vec<Transition>, MuError>
     requires found { AreFindings found.now }
     requires pair { IfSome pair.now (IsPairOf (arc_value found.now.solution.game)) }
-    ensures shown { IfOk result (λ part. AreShown found.now part.items) }
+    ensures shown { IfOk result (λ part. AreShown found.now.solution.priorities found.now.texts.value part.items) }
     ensures refusal { IfErr result IsUnshown }
 {
     match pair {
@@ -231,17 +237,67 @@ pub(crate) fn winner_evidence(alloc: Global, found: &Findings) -> Result<Evidenc
     }
 }
 
-/// The transitions that the play takes by evidence that has the initial state's vertex with the root node.
+/// The transitions that the play takes by evidence, in a game that was solved.
 fn part_by(alloc: Global, found: &Findings, evidence: &Evidence) -> Result<Vec<Transition>, MuError>
     requires found { AreFindings found.now }
     requires winning { IsWinning found.now evidence.now }
-    ensures shown { IfOk result (λ part. AreShown found.now part.items) }
+    ensures shown { IfOk result (λ part. AreShown found.now.solution.priorities found.now.texts.value part.items) }
     ensures refusal { IfErr result IsUnshown }
 {
-    chosen_is_admissible();
     let SolvedGame { form, game, .. } = &found.solution;
-    let system = &found.texts.system;
-    Ok(witness(alloc, system, form, game, evidence)?)
+    Ok(part_of_play(alloc, &found.texts, form, game, evidence)?)
+}
+
+/// The transitions that the play takes by evidence.
+fn part_of_play(
+    alloc: Global,
+    texts: &Texts,
+    form: &Normal,
+    game: &Game,
+    evidence: &Evidence,
+) -> Result<Vec<Transition>, Memory>
+    requires { IsPlay texts.now.system.system (normal_nodes form.now) game.now evidence.now }
+    ensures { IfOk result (λ part. (rule : Priorities) → normal_nodes form.now ≡ nodes_with rule (closed_formula texts.now.formula)
+        → AreShown rule texts.now part.items) }
+{
+    chosen_is_admissible();
+    witness(alloc, &texts.system, form, game, evidence)
+}
+
+/// Makes what is wanted of a play, with a witness in this form, and without the evidence of both players.
+pub(crate) fn prepare_play(
+    alloc: Global,
+    found: &PlayFound,
+    options: &Options,
+    wanted: Wanted,
+    form: WitnessForm,
+) -> Result<Prepared, MuError>
+    requires found { IsPlayFound options.now.priorities options.now.board found.now }
+    requires evidence { wanted.evidence ≡ false }
+    requires form { wanted.witness ≡ Some form }
+
+    ensures prepared { IfOk result (ArePrepared (outcome_played options.now.priorities options.now.board found.now) (arc_value found.now.game)) }
+    ensures wanted { IfOk result (λ prepared. prepared.wanted ≡ wanted) }
+
+    ensures refusal { IfErr result (λ e. e ≡ MuError.Memory) }
+{
+    // For the proof alone: clauses name them.
+    let _ = options;
+    let PlayFound {
+        texts,
+        form: normal,
+        game,
+        evidence,
+        marks,
+    } = found;
+    let part = part_of_play(alloc, texts, normal, game, evidence)?;
+    let report = report_text(alloc, &texts.system, &texts.formula, marks, wanted.report)?;
+    Ok(Prepared {
+        wanted,
+        pair: None,
+        shown: Some(WitnessText { form, part }),
+        report,
+    })
 }
 
 /// Whether the initial state satisfies the formula.
