@@ -6,4 +6,3 @@ mod Putting
 mod Reasoning
 mod Caused
 mod Leasts
-mod GameTexts

@@ -103,7 +103,7 @@ pub(crate) fn answer_play<G: Sink, E: Sink, O: Sink, V: Sink, W: Sink, U: Watche
 }
 
 /// Writes the texts that are wanted, and then the report.
-fn put_wanted<G: Sink, E: Sink, O: Sink, V: Sink, W: Sink>(
+pub(crate) fn put_wanted<G: Sink, E: Sink, O: Sink, V: Sink, W: Sink>(
     texts: &Texts,
     played: &Game,
     prepared: &Prepared,

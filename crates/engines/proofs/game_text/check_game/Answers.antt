@@ -1,14 +1,16 @@
-use Rattle.std.proofs.Common.{◌≡◌, ◌∙◌, Ok, Err, Some, List, Bool, ap, false, slice_index_or, subst, sym}
-use Rattle.std.specs.Prelude.{MatchResult}
+use Rattle.std.proofs.Common.{◌∙◌, List, Bool, None, Some, ap, refl, sym}
+use Rattle.std.specs.Arc.{arc_value}
 use Rattle.calculus.specs.Closed.{closed_formula}
-use Rattle.requests.specs.Check.{AnswersCheck, ByGame}
+use Rattle.requests.specs.Check.{ByGame}
 use Rattle.requests.specs.Report.{report_in}
-use Rattle.requests.specs.Writers.{all_writers, lent_writers}
-use Rattle.requests.specs.declared.error.MuError.TheVariants as error
+use Rattle.requests.specs.Writers.{all_writers}
 use Rattle.requests.specs.declared.request.Wanted.{Wanted}
+use Rattle.engines.specs.Prepared.{ArePrepared, Outcome}
+use Rattle.engines.specs.declared.prepared.Prepared.{Prepared}
 use Rattle.engines.proofs.Caused.{written_caused}
-use Rattle.engines.proofs.Checks.{answer_of, kept_writers}
+use Rattle.engines.proofs.Checks.{answer_of, answered_at, kept_writers}
 use Rattle.engines.proofs.Orders.{refused_on}
+use Rattle.engines.proofs.Putting.{all_put}
 use Rattle.requests.proofs.Caused.{beyond_caused}
 use Rattle.text.proofs.PassedOn.{passed_on}
 use Rattle.verdicts.proofs.Beyond.{beyond_of}
@@ -16,22 +18,31 @@ use Rattle.engines.proofs.game_text.check_game.Goals as goal
 
 pub returns-clause-answers : goal.returns-clause-answers
 returns-clause-answers g c = λ first second spelled.
-    let way = ByGame c.args.options.now.priorities (Some c.args.options.now.board) in
-    let l = c.args.texts.now.system.system in
-    let f = closed_formula c.args.texts.now.formula in
+    let options = c.args.options.now in
+    let texts = c.args.texts.now in
+    let l = texts.system.system in
+    let f = closed_formula texts.formula in
     let found = c.in_ok-found.found in
-    let same : c.as_slice-marked.result.now ≡ found.marks.items = c.as_slice-marked.ensures.value in
-    let told : c.as_slice-told.result.now ≡ report_in c.args.wanted.report l f found.marks.items = c.as_slice-told.ensures.value
-    ∙ (c.in_ok-report.ensures.text ∙ ap (λ (ms : List Bool). report_in c.args.wanted.report l f ms) same) in
-    subst (λ (w : Wanted). AnswersCheck way first second (lent_writers g.G.Sink.taken g.E.Sink.taken g.O.Sink.taken g.V.Sink.taken g.W.Sink.taken w
-    c.args.writers.now c.put_game-wrote.new.writers) c.answer_marked.result) (sym c.requires)
-    (answer_of way first second _ l f found.marks.items c.put_game-wrote.result c.answer_marked.result spelled c.in_ok-found.ensures.marks
-    (c.put_game-wrote.ensures c.args.wanted.report told)
-    (subst (λ (ms : List Bool). MatchResult c.put_game-wrote.result (λ x. c.answer_marked.result ≡ Ok (slice_index_or ms l.initial false))
-    (λ fault. c.answer_marked.result ≡ Err (error.Write fault))) same c.answer_marked.ensures))
+    let wanted = c.args.wanted in
+    let x : Outcome = record { rule = options.priorities; board = Some options.board; texts = texts; marks = found.marks.items } in
+    let p : Prepared = record { wanted = wanted; pair = None; shown = None; report = c.in_ok-report.report } in
+    let made : ArePrepared x (arc_value found.game) p = record {
+      game = c.in_ok-found.ensures.game.same;
+      pair = tt;
+      evidence = sym (ap (λ (w : Wanted). w.evidence) c.requires);
+      shown = tt;
+      form = sym (ap (λ (w : Wanted). w.witness) c.requires);
+      report = c.in_ok-report.ensures.text ∙ ap (λ (ms : List Bool). report_in wanted.report l f ms) c.as_slice-marked.ensures.value;
+    } in
+    answer_of (ByGame options.priorities (Some options.board)) first second _ l f found.marks.items c.put_wanted-wrote.result c.answer_marked.result spelled
+    c.in_ok-found.ensures.marks
+    (all_put x texts c.deref.result.now (arc_value found.game) p wanted _ _ _ _ _ _ _ _ _ _ c.put_wanted-wrote.result refl c.deref.ensures refl made
+    c.put_wanted-wrote.ensures)
+    (answered_at c.as_slice-marked.result.now found.marks.items texts texts c.put_wanted-wrote.result c.answer_marked.result c.as_slice-marked.ensures.value refl
+    c.answer_marked.ensures)
 
 pub returns-clause-cause : goal.returns-clause-cause
-returns-clause-cause g c = written_caused c.put_game-wrote.result c.answer_marked.result _ _ _ c.answer_marked.ensures
+returns-clause-cause g c = written_caused c.put_wanted-wrote.result c.answer_marked.result _ _ _ c.answer_marked.ensures
 
 pub returns-in_err-found-clause-answers : goal.returns-in_err-found-clause-answers
 returns-in_err-found-clause-answers g c = λ first second spelled.
