@@ -175,6 +175,11 @@ impl<'a> ArenaSearch<'a> {
         }
     }
 
+    /// Whether a list counts anything.
+    pub(crate) fn has_counts(&self, list: usize) -> bool {
+        self.counts.has(list) || self.words.has(list)
+    }
+
     #[inline(always)]
     pub(crate) fn count(&mut self, list: usize, state: usize, word: u64) {
         if self.layout.is_wide {

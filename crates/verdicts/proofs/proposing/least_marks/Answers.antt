@@ -1,4 +1,4 @@
-use Rattle.std.proofs.Common.{◌≡◌, ◌≢◌, ◌∙◌, List, Some, ◌+◌, ◌*◌, length, ap, refl, subst, sym}
+use Rattle.std.proofs.Common.{◌≢◌, ◌∙◌, List, Some, length, ap, refl, subst}
 use Rattle.calculus.specs.Closed.{closed_formula}
 use Rattle.calculus.specs.Form.{IsForm}
 use Rattle.calculus.specs.Meaning.{MarksOf}
