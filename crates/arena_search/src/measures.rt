@@ -1,6 +1,6 @@
 // The least measures of both players, with heights by which it can be seen that they are.
 
-use crate::arena::{Arena, SearchNode};
+use crate::arena::{Arena, NONE, SearchNode};
 use crate::fields::{Fields, MARK};
 use crate::part::NodeComponent;
 use crate::search::ArenaSearch;
@@ -30,31 +30,38 @@ pub struct GuessedLayout {
     pub shifts: Vec<u32>,
 }
 
-/// For each vertex of the arena, first both sinks, a number, whose lowest bit says that Odd wins and whose fields have what the winner counts; and a row of so many
-/// heights, one for each field of the winner. Odd's measures and priorities are those of the dual game.
+/// For each of so many vertices of the arena, first both sinks, a row: a number, whose lowest bit says that Odd wins and whose fields have what the winner
+/// counts; and so many heights, one for each field of the winner, but none where no vertex counts. Odd's measures and priorities are those of the dual game.
 #[derive(Drop)]
 pub struct GuessedMeasures {
-    pub numbers: Vec<u64>,
-    pub heights: Vec<u64>,
+    pub vertices: u32,
     pub width: u32,
+    pub rows: Vec<u64>,
     pub even: GuessedLayout,
     pub odd: GuessedLayout,
 }
 
-// The search once it has ended, with the component of each node and the greatest priority.
+// The search once it has ended, with the component of each node, what its numbers are made of, the greatest priority, and whether any vertex counts.
 #[derive(Drop)]
 struct FoundMeasures<'a> {
     search: ArenaSearch<'a>,
     parts: List<NodeComponent>,
+    numbers: List<NodeNumbers>,
     greatest: u32,
+    has_counts: bool,
 }
 
-// A number for each vertex, and a row of heights.
-#[derive(Drop)]
-struct FoundNumbers {
-    numbers: List<u64>,
-    heights: List<u64>,
+// What the numbers of a node's vertices are made of: the list of its measures, and what is above all fields.
+#[derive(Clone, Copy)]
+struct NodeNumbers {
+    list: usize,
+    above: u64,
 }
+
+const NO_NUMBERS: NodeNumbers = NodeNumbers {
+    list: NONE,
+    above: 0,
+};
 
 /// Guesses the least measures of both players. There are none where that takes too long, where counts don't fit a word, or where memory runs out.
 pub fn least_measures(alloc: Global, lts: &Lts, form: &Normal) -> Option<GuessedMeasures> {
@@ -62,11 +69,16 @@ pub fn least_measures(alloc: Global, lts: &Lts, form: &Normal) -> Option<Guessed
     let mut found = FoundMeasures {
         search: ArenaSearch::of(alloc, &arena)?,
         parts: List::none(alloc),
+        numbers: List::none(alloc),
         greatest: 1,
+        has_counts: false,
     };
     for number in 0..arena.count() {
         let node = arena.node(number);
         found.parts.push(NodeComponent::of(&arena, node.root));
+        let numbers = found.numbers_of(number);
+        found.has_counts |= found.search.has_counts(numbers.list);
+        found.numbers.push(numbers);
         found.greatest = node.priority.max(found.greatest);
     }
     Some(found.measures(alloc))
@@ -83,6 +95,11 @@ impl FoundMeasures<'_> {
     fn priority(&self, is_odd: bool, place: u32) -> u32 {
         let above = self.width(is_odd).saturating_sub(1).saturating_sub(place);
         above.saturating_mul(2).saturating_add(u32::from(!is_odd))
+    }
+
+    // How many heights a vertex has: none where no vertex counts.
+    fn heights(&self) -> u32 {
+        if self.has_counts { self.width(true) } else { 0 }
     }
 
     fn raised(&self, word: u64) -> u64 {
@@ -106,47 +123,57 @@ impl FoundMeasures<'_> {
         base.wrapping_add(self.search.counted(list, state))
     }
 
-    // Writes the number of a vertex, and from a place on its heights: one at each count of the winner's, where there is anything to count.
-    fn write(&self, found: &mut FoundNumbers, v: usize, node: SearchNode, state: usize) {
-        let layout = self.search.layout;
-        let is_odd = self.search.odd.has(node.number, state);
-        let word = self
-            .search
-            .counted(self.search.measures(node.number), state);
-        let above = layout.group(self.search.arena, node);
-        let number = self.raised(word).wrapping_add(above);
-        found.numbers.set(v, number.wrapping_add(u64::from(is_odd)));
-        let first = v.wrapping_mul(self.width(true) as usize);
+    fn numbers_of(&self, node: usize) -> NodeNumbers {
+        let ArenaSearch { arena, layout, .. } = &self.search;
+        NodeNumbers {
+            list: self.search.measures(node),
+            above: layout.group(arena, arena.node(node)),
+        }
+    }
+
+    // Writes the heights of a vertex after its number: one at each count of the winner's, where there is anything to count.
+    fn write_heights(&self, rows: &mut List<u64>, first: usize, number: usize, state: usize) {
+        let node = self.search.arena.node(number);
+        let NodeNumbers { list, above } = self.numbers_of(number);
+        let word = self.search.counted(list, state);
+        let is_odd = self.search.odd.has(number, state);
+        let fields = self.search.layout.fields(is_odd);
         for place in 0..self.width(is_odd) {
             let priority = self.priority(is_odd, place);
-            if node.priority < priority && layout.fields(is_odd).count(priority, word) > 0 {
+            if node.priority < priority && fields.count(priority, word) > 0 {
                 let fallen = self.raised(self.fallen(is_odd, priority, node, state));
                 let height = fallen.wrapping_add(above).wrapping_add(COUNTS_BELOW);
-                found
-                    .heights
-                    .set(first.wrapping_add(place as usize), height);
+                rows.set(first.wrapping_add(1).wrapping_add(place as usize), height);
             }
         }
     }
 
-    // The numbers and the heights of all vertices, by state and then by node. The sinks come first: Odd wins the second one.
-    fn vertices(&self, alloc: Global) -> FoundNumbers {
-        let arena = self.search.arena;
-        let room = arena.states.saturating_mul(arena.count()).saturating_add(2);
-        let rows = room.saturating_mul(self.width(true) as usize);
-        let mut found = FoundNumbers {
-            numbers: List::filled(alloc, room, 0),
-            heights: List::filled(alloc, rows, 0),
-        };
-        found.numbers.set(1, MARK);
-        let mut v = 2_usize;
-        for state in 0..arena.states {
-            for node in 0..arena.count() {
-                self.write(&mut found, v, arena.node(node), state);
-                v = v.wrapping_add(1);
+    // Writes the row of a vertex from a place on.
+    #[inline(always)]
+    fn write(&self, rows: &mut List<u64>, first: usize, node: usize, state: usize) {
+        let NodeNumbers { list, above } = self.numbers.get_or(node, NO_NUMBERS);
+        let word = self.search.counted(list, state);
+        let is_odd = self.search.odd.has(node, state);
+        let number = self.raised(word).wrapping_add(above);
+        rows.set(first, number.wrapping_add(u64::from(is_odd)));
+        if word != 0 {
+            self.write_heights(rows, first, node, state);
+        }
+    }
+
+    // The rows of so many vertices, by state and then by node. The sinks come first: Odd wins the second one.
+    fn rows(&self, alloc: Global, vertices: usize) -> List<u64> {
+        let stride = (self.heights() as usize).saturating_add(1);
+        let mut rows = List::filled(alloc, vertices.saturating_mul(stride), 0);
+        rows.set(stride, MARK);
+        let mut first = stride.saturating_mul(2);
+        for state in 0..self.search.arena.states {
+            for node in 0..self.numbers.len() {
+                self.write(&mut rows, first, node, state);
+                first = first.wrapping_add(stride);
             }
         }
-        found
+        rows
     }
 
     // The field of a priority, and for one that has none the highest bit, which no number has.
@@ -184,11 +211,12 @@ impl FoundMeasures<'_> {
     }
 
     fn measures(&self, alloc: Global) -> GuessedMeasures {
-        let found = self.vertices(alloc);
+        let arena = self.search.arena;
+        let vertices = arena.states.saturating_mul(arena.count()).saturating_add(2);
         GuessedMeasures {
-            numbers: found.numbers.into_items(),
-            heights: found.heights.into_items(),
-            width: self.width(true),
+            vertices: u32::try_from(vertices).unwrap_or(0),
+            width: self.heights(),
+            rows: self.rows(alloc, vertices).into_items(),
             even: self.layout(alloc, false),
             odd: self.layout(alloc, true),
         }

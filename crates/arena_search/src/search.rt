@@ -3,8 +3,8 @@
 use crate::arena::{Arena, NONE, SearchNode};
 use crate::edges::Edges;
 use crate::fields::Layout;
-use crate::mend::Later;
 use crate::part::NodeComponent;
+use crate::repair::Later;
 use crate::sets::{Sets, bit, states_of, word_of};
 use crate::table::NumberLists;
 use game::list::List;
@@ -173,6 +173,11 @@ impl<'a> ArenaSearch<'a> {
         } else {
             u64::from(self.counts.get(list, state))
         }
+    }
+
+    /// Whether a list counts anything.
+    pub(crate) fn has_counts(&self, list: usize) -> bool {
+        self.counts.has(list) || self.words.has(list)
     }
 
     #[inline(always)]
@@ -371,7 +376,7 @@ impl<'a> ArenaSearch<'a> {
         if self.lost.is_empty() {
             return self.wait_for_exits(block, round);
         }
-        block > 1 || self.are_timed || self.mend_rounds()
+        block > 1 || self.are_timed || self.repair_rounds()
     }
 
     // A block's player gains the states of a node that the other one hasn't gained inside.

@@ -1,16 +1,15 @@
 -- A line and the shortened one say the same, but for how great a number is that is too great for its type.
-use Rattle.std.proofs.Common.{◌≡◌, ℕ, zero, suc, ◌+◌, ◌-◌, ◌*◌, ◌<◌, ◌≤◌, ◌⊎◌, inl, inr, Bool, true, false, cond, ◌&&◌, ◌||◌, ◌==◌, nat_le, nat_lt, List}
+use Rattle.std.proofs.Common.{◌≡◌, ℕ, zero, suc, ◌+◌, ◌-◌, ◌<◌, ◌≤◌, ◌⊎◌, inl, inr, Bool, true, false, cond, ◌&&◌, ◌||◌, ◌==◌, nat_le, nat_lt, List}
 use Rattle.std.proofs.Common.{[], ◌∷◌, ◌++◌, length, take, Option, Some, None, codes, refl, sym, ap, ◌∙◌, subst, arith, append-nil, append_assoc, true≢false}
-use Rattle.std.specs.List.{list_all, list_any, prefix_len, fold}
+use Rattle.std.specs.List.{list_all, list_any, prefix_len}
 use Rattle.std.specs.Str.{bytes_eq}
-use Rattle.std.proofs.lemmas.Bool.{and_parts, eqb-true, leb-true, le-leb, cases_lt, le-ltb, lt-ltb, lt-leb}
+use Rattle.std.proofs.lemmas.Bool.{and_parts, eqb-true, le-leb, cases_lt, le-ltb, lt-ltb, lt-leb}
 use Rattle.std.proofs.lemmas.List.{take_all, length-take-le}
 use Rattle.std.proofs.lemmas.Slice.Eq.{bytes_eq-Decides}
 use Rattle.text.specs.Text.{is_digit, is_numeral, value_of}
 use Rattle.text.specs.Tokens.{capped, cut_at, is_other, ◌>>=◌}
 use Rattle.text.proofs.Scanning.{cut_finds, no_numeral, none_other, run_is}
-use Rattle.text.proofs.Streaming.{all_front, digit_more, first_digit, grows, high, numeral_front, times_ten}
-use Rattle.text.proofs.Spaced.{numeral_digits}
+use Rattle.text.proofs.Streaming.{digit_more, first_digit, high, numeral_front, times_ten}
 use Rattle.evidence.specs.declared.limits.TheConstants.{GREATEST_COUNT, MOST_DIGITS}
 use Rattle.evidence.specs.Scan.{count_before, counts_in, end_of, fields_of, move_of, number_of, rank_of, read_move}
 use Rattle.evidence.specs.Short.{digits_then, kept_of, short_from, short}

@@ -1,20 +1,12 @@
 -- What a line that is taken says of what a reader has left.
-use Rattle.std.proofs.Common.{◌≡◌, ◌≢◌, ℕ, ◌+◌, ◌≤◌, true, false, cond, ◌||◌, ◌==◌, List, [], ◌∷◌, ◌++◌, length, take, drop, Option, Some, None, Result, Ok}
-use Rattle.std.proofs.Common.{Err, refl, sym, ap, ◌∙◌, subst, append_assoc, arith}
+use Rattle.std.proofs.Common.{◌≡◌, ◌≢◌, ℕ, ◌+◌, true, false, cond, ◌==◌, List, [], ◌∷◌, take, Option, Some, None, Result, Ok}
+use Rattle.std.proofs.Common.{Err, refl, sym, ap, ◌∙◌, subst}
 use Rattle.std.specs.Prelude.{IfSome, IfErr, OnOk}
-use Rattle.std.specs.List.{list_any}
-use Rattle.std.specs.Io.{StartsWith}
-use Rattle.std.specs.Io.KnownBytes.{Keeps}
-use Rattle.std.specs.Io.BufRead.{DropsConsumable}
-use Rattle.std.proofs.lemmas.List.{take-append-drop, length-append}
-use Rattle.std.proofs.lemmas.List.Prefix.{front_rest}
 use Rattle.text.specs.Text.{pieces_of, with_first, lines}
 use Rattle.text.specs.Lines.{IfKnown, TakesPiece}
-use Rattle.text.specs.Tokens.{cut_at}
 use Rattle.text.specs.Stream as stream
 use Rattle.text.specs.Stream.{first_piece, after_line, HasLine}
 use Rattle.text.proofs.Streaming.{known_only, lines_cons}
-use Rattle.text.proofs.Scanning.{cut_gives}
 use Rattle.game.specs.declared.player.Player.{Player}
 use Rattle.evidence.specs.declared.error.EvidenceFault.{EvidenceFault}
 use Rattle.evidence.specs.declared.error.EvidenceFault.TheVariants.{BadHeader}

@@ -14,7 +14,6 @@ use Rattle.evidence.specs.Reading.{AreEntriesRead, BeginsWith, HasNoHeader}
 use Rattle.evidence.specs.Spelling.{IsEvidenceText, IsRowInside, IsShaped, EntryRow}
 use Rattle.evidence.specs.View.{NamedEvidence}
 use Rattle.evidence.specs.declared.error.EvidenceError.{EvidenceError}
-use Rattle.evidence.specs.declared.error.EvidenceError.TheVariants as errors
 use Rattle.evidence.specs.declared.error.EvidenceFault.{EvidenceFault}
 use Rattle.evidence.specs.declared.error.EvidenceFault.TheVariants.{BadHeader, BadLine, BadVertex}
 use Rattle.evidence.proofs.Alone.{no_fault, one_evidence, one_fault}

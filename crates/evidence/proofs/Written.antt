@@ -1,20 +1,18 @@
 -- The lines of evidence, as they are written.
-use Rattle.std.proofs.Common.{◌≡◌, ℕ, suc, ◌+◌, ◌<◌, List, [], ◌∷◌, ◌++◌, Option, Some, None, length, decimal, refl, ap, ap₂, subst, ◌∙◌, append_assoc}
-use Rattle.std.proofs.Common.{slice_index_or, arith}
+use Rattle.std.proofs.Common.{◌≡◌, ℕ, suc, ◌+◌, ◌<◌, List, [], ◌∷◌, ◌++◌, Option, Some, None, length, decimal, refl, ap, ap₂, subst, sym, ◌∙◌}
+use Rattle.std.proofs.Common.{slice_index, slice_index_or, arith, codes}
+use Rattle.std.proofs.lemmas.Fmt.{decimal_digit}
 use Rattle.text.specs.Pieces.{line_end}
 use Rattle.measures.specs.MeasureText.{counts_text}
 use Rattle.text.specs.Wrote.{lines_from}
-use Rattle.evidence.specs.Canon.{entry_line, entry_lines, entry_line_at, entry_line_of, move_text}
+use Rattle.evidence.specs.Canon.{entry_lines, entry_line_at, entry_line_of}
 use Rattle.evidence.specs.Evidence.{Entry}
 
--- a vertex and a move, each with a space behind it
-abbrev pub front : ℕ → List ℕ → List ℕ
-front v move = decimal v ++ 32 ∷ (move ++ 32 ∷ [])
-
-pub line_is : (v : ℕ) (move : List ℕ) (x : Entry) → move ≡ move_text x.move → front v move ++ (counts_text x.rank ++ line_end) ≡ entry_line v x
-line_is v move x e =
-    let rest = counts_text x.rank ++ line_end in
-    append_assoc (decimal v) (32 ∷ (move ++ 32 ∷ [])) rest ∙ ap (λ l. decimal v ++ 32 ∷ l) (append_assoc move (32 ∷ []) rest ∙ ap (λ l. l ++ 32 ∷ rest) e)
+-- a rank that is one zero
+pub zero_text : (rank : List ℕ) → length rank ≡ 1 → slice_index rank 0 ≡ 0 → codes " (0)\n" ≡ codes " " ++ (counts_text rank ++ line_end)
+zero_text [] one zero = absurd (omega arith)
+zero_text (x ∷ []) one zero = ap (λ digits. 32 ∷ 40 ∷ ((digits ++ 41 ∷ []) ++ line_end)) (sym (ap decimal zero ∙ decimal_digit 0 (omega arith)))
+zero_text (x ∷ y ∷ rank) one zero = absurd (omega arith)
 
 -- ---- lines by number
 

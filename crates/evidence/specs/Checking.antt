@@ -1,5 +1,5 @@
 -- What a checker finds at one vertex.
-use Rattle.std.specs.Prelude.{◌≡◌, ℕ, ◌+◌, ◌*◌, ◌<◌, ◌≤◌, ◌⊎◌, ◌↔◌, List, length, Contains, IsTrue, Option, Some, None}
+use Rattle.std.specs.Prelude.{◌≡◌, ℕ, ◌<◌, ◌⊎◌, ◌↔◌, List, length, Contains, IsTrue, Option, Some, None}
 use Rattle.game.specs.Game.{Game, Vertex, vertex}
 use Rattle.game.specs.Wins.{WinsBy}
 use Rattle.measures.specs.Laws.{IsBestMove}

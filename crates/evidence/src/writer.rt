@@ -1,6 +1,7 @@
 // The writers of evidence and of what a checker answers.
 
-ghost use Rattle.std.specs.Prelude.{◌≡◌, ◌++◌};
+ghost use Rattle.std.specs.Prelude.{◌≡◌, ◌++◌, codes};
+ghost use Rattle.measures.specs.MeasureText.{counts_text};
 ghost use Rattle.text.specs.Pieces.{line_end, piece_text};
 ghost use Rattle.text.specs.Wrote.{Wrote};
 ghost use Rattle.evidence.specs.Canon.{entry_line, entry_lines, evidence_text, header, move_text, player_text};
@@ -12,7 +13,7 @@ use crate::verdict::{Both, Fault, Verdict};
 use game::player::Player;
 use measures::writer::put_counts;
 use text::sink::Sink;
-use text::{Lines, Piece, WriteFault, put, put_lines, put_pieces};
+use text::{Lines, Piece, WriteFault, put, put_lines, put_number, put_pieces};
 
 fn player_word(player: Player) -> &'static [u8]
     ensures { result.now ≡ player_text player }
@@ -40,13 +41,26 @@ pub fn put_header<W: Sink>(player: Player, writer: &mut W) -> Result<(), WriteFa
     )
 }
 
-fn move_piece(next: Option<u32>) -> Piece<'static>
-    ensures { piece_text result ≡ move_text next }
+// Writes a move after a blank.
+fn put_move<W: Sink>(writer: &mut W, next: Option<u32>) -> Result<(), WriteFault>
+    ensures { Wrote (W.taken writer.old) (W.taken writer.new) result (codes " " ++ move_text next) }
 {
     match next {
-        Some(next) => Piece::Number(u64::from(next)),
-        None => Piece::Bytes(b"-"),
+        Some(next) => put_number(writer, b" ", next),
+        None => put(writer, b" -"),
     }
+}
+
+// Writes a rank after a blank, and the line's end. Most ranks are one zero, and that is one write.
+fn put_rank<W: Sink>(writer: &mut W, rank: &[u32]) -> Result<(), WriteFault>
+    ensures { Wrote (W.taken writer.old) (W.taken writer.new) result (codes " " ++ (counts_text rank.now ++ line_end)) }
+{
+    if rank.len() == 1 && rank[0] == 0 {
+        return put(writer, b" (0)\n");
+    }
+    put(writer, b" ")?;
+    put_counts(writer, rank)?;
+    put(writer, b"\n")
 }
 
 /// Writes the line of a vertex.
@@ -56,17 +70,9 @@ fn move_piece(next: Option<u32>) -> Piece<'static>
 pub fn put_entry<W: Sink>(v: usize, view: EntryView<'_>, writer: &mut W) -> Result<(), WriteFault>
     ensures { Wrote (W.taken writer.old) (W.taken writer.new) result (entry_line v record { move = view.entry.next; rank = view.entry.rank.now }) }
 {
-    put_pieces(
-        writer,
-        &[
-            Piece::Number(v as u64),
-            Piece::Bytes(b" "),
-            move_piece(view.next),
-            Piece::Bytes(b" "),
-        ],
-    )?;
-    put_counts(writer, view.rank)?;
-    put(writer, b"\n")
+    put_number(writer, b"", v as u64)?;
+    put_move(writer, view.next)?;
+    put_rank(writer, view.rank)
 }
 
 // A line for each vertex of the set.

@@ -1,12 +1,13 @@
 -- Proposals that are stored in packed numbers.
-use Rattle.measures.proofs.Common.{◌≡◌, ◌≢◌, ℕ, suc, ◌<◌, ◌≤◌, List, [], ◌∷◌, length, refl, ap, ap₂}
-use Rattle.measures.proofs.Common.{◌∙◌, ◌⊎◌, subst, inl, inr, arith, leb_tells, get_or_past}
+use Rattle.measures.proofs.Common.{◌≡◌, ◌≢◌, ℕ, zero, suc, slice_index, get_or_default, ◌<◌, ◌≤◌, List, [], ◌∷◌, length, refl, ap, ap₂}
+use Rattle.measures.proofs.Common.{get_or-map-range_with_len, length-map-range_with_len, ◌∙◌, ◌⊎◌, subst, inl, inr, arith, leb_tells, get_or_past}
 use Rattle.measures.proofs.Common.{AllZip, AllZip-long, Some, Ordering, Less, Equal, nat_cmp, opponent, Player, Even, Odd}
 use Rattle.measures.proofs.Common.{Vertex, Game, count, vertex, components, Measure, Top, Counts, IsMeasure, measure_cmp, value_at, Rows, counts_of}
 use Rattle.measures.specs.Measure.{counted_at, cut, digit_of}
 use Rattle.measures.specs.declared.proposal.PlayerLayout.{PlayerLayout}
 use Rattle.measures.specs.Proposal.{AreEnough, HasAllButOne, HasAsMuch, HasReasonsFor, HeightFalls, IsFirstMoveBy, IsReason, MatchUpTo, Proposal}
-use Rattle.measures.specs.StoredProposal.{AreBoundsIn, shift_in}
+use Rattle.measures.specs.StoredProposal.{AreBoundsIn, height_in, layout_of, shift_in, value_of, values_of}
+use Rattle.measures.specs.declared.proposal.Proposals.{Proposals}
 use Rattle.measures.proofs.Places.{place_contained}
 use Rattle.measures.proofs.Plain.{same_values}
 
@@ -18,6 +19,18 @@ risen layout n long below p = elim (leb_tells n p) [
   | inl w ↦ (let l = w.1 in let past = get_or_past layout.shifts (suc p) 63 (omega arith) in omega (arith, past))
   | inr w ↦ below p w.1
 ]
+
+-- ------------------------------------------------------------------ values
+
+pub value_there : (player : Player) (c : Proposals) (v : ℕ) → v < c.vertices
+    → value_at (values_of player c) v ≡ value_of player (layout_of player c) (height_in c 0 v)
+value_there player c v h = get_or-map-range_with_len (λ u. value_of player (layout_of player c) (height_in c 0 u)) 0 c.vertices v v Top h (omega arith)
+
+pub values_long : (player : Player) (c : Proposals) → length (values_of player c) ≡ c.vertices
+values_long player c = length-map-range_with_len (λ v. value_of player (layout_of player c) (height_in c 0 v)) 0 c.vertices
+
+pub value_past : (player : Player) (c : Proposals) (v : ℕ) → c.vertices ≤ v → value_at (values_of player c) v ≡ Top
+value_past player c v h = get_or_past (values_of player c) v Top (let long = values_long player c in omega arith)
 
 -- ------------------------------------------------------------------ an edge
 
@@ -35,6 +48,13 @@ as_much c digit p v t at own other e less o r equal falls =
 abbrev pub Undecided : Player → (ℕ → Type 0) → ℕ → Type 0
 Undecided Even P t = P t
 Undecided Odd P t = Unit {0}
+
+-- where the loop has ended
+pub none_decides : (asker : Player) (P : ℕ → Type 0) (ts : List ℕ) (n : ℕ) → length ts ≤ n → ((i : ℕ) → i < n → Undecided asker P (slice_index ts i))
+    → asker ≢ Odd → AreEnough asker P ts
+none_decides Even P ts n past all differs = λ t has.
+    let inside = has.1 in subst P (get_or_default ts has.0 0 t inside ∙ has.2) (all has.0 (omega arith))
+none_decides Odd P ts n past all differs = absurd (differs refl)
 
 -- A move's owner reaches enough.
 pub enough_for : (o : Player) (P : ℕ → Type 0) (ts : List ℕ) (next : ℕ) → IsFirstMoveBy o P ts next → AreEnough (opponent o) P ts
@@ -56,6 +76,15 @@ within_bounds f [] (x ∷ bs) ps h b = absurd h
 within_bounds f (c ∷ cs) [] ps h b = absurd h
 within_bounds f (c ∷ cs) (x ∷ bs) [] h b = absurd b
 within_bounds f (c ∷ cs) (x ∷ bs) (p ∷ ps) h b = (omega (arith, h.0, b.0), within_bounds f cs bs ps h.1 b.1)
+
+pub all_within : (cs bs : List ℕ) (n : ℕ) → length cs ≡ length bs → length cs ≤ n → ((i : ℕ) → i < n → slice_index cs i ≤ slice_index bs i)
+    → AllZip (λ count bound. count ≤ bound) cs bs
+all_within [] [] n same past h = tt
+all_within [] (b ∷ bs) n same past h = absurd (omega arith)
+all_within (c ∷ cs) [] n same past h = absurd (omega arith)
+all_within (c ∷ cs) (b ∷ bs) zero same past h = absurd (omega arith)
+all_within (c ∷ cs) (b ∷ bs) (suc n) same past h =
+    (h 0 (omega arith), all_within cs bs n (omega arith) (omega arith) (λ i below. h (suc i) (omega arith)))
 
 pub measure_bounded : (g : Game) (m : Measure) (bounds : List ℕ) → AreBoundsIn g bounds
     → (m ≢ Top → AllZip (λ count bound. count ≤ bound) (counts_of m) bounds) → IsMeasure g m

@@ -7,11 +7,10 @@ ghost use Rattle.game.specs.Lent.{lent_vertex};
 ghost use Rattle.measures.specs.Measure.{components};
 ghost use Rattle.measures.specs.Progress.{IsLeastTable, value_at};
 ghost use Rattle.measures.specs.Proposal.{AreEnough, HasReasonsFor, HeightFalls, IsFirstOf, IsGoodVertex, IsFirstMove, IsFirstMoveBy, IsReason, ReachesFrom};
-ghost use Rattle.measures.specs.StoredProposal.{AreBoundsIn, height_in, layout_of, proposal_in, shift_in, value_of, value_said, values_of, winner_at, winner_of};
+ghost use Rattle.measures.specs.StoredProposal.{AreBoundsIn, IsProposedAt, height_in, layout_of, proposal_in, shift_in, value_of, value_said, values_of, winner_at, winner_of};
 
 use crate::field::CountField;
 use crate::measure::{COMPONENTS, Measure};
-use crate::progs::are_within;
 use crate::value::ProposedValue;
 use arrayvec::ArrayVec;
 use game::player::Player;
@@ -35,13 +34,13 @@ pub struct PlayerLayout {
     pub shifts: [u32; SHIFTS],
 }
 
-/// For each vertex of a game a number, whose lowest bit says that Odd wins, and whose fields have what the winner counts; and a row of so many heights. What
-/// is counted of a vertex that Odd wins is its measure in the dual game. Nothing of it is tested.
+/// For each of so many vertices of a game a row: a number, whose lowest bit says that Odd wins, and whose fields have what the winner counts; and so many
+/// heights. What is counted of a vertex that Odd wins is its measure in the dual game. Nothing of it is tested.
 #[derive(Drop)]
 pub struct Proposals {
-    pub numbers: Vec<u64>,
-    pub heights: Vec<u64>,
+    pub vertices: u32,
     pub width: u32,
+    pub rows: Vec<u64>,
     pub even: PlayerLayout,
     pub odd: PlayerLayout,
 }
@@ -53,6 +52,7 @@ struct ProposedVertex<'a> {
     width: usize,
     v: u32,
     priority: u8,
+    shift: u32,
     own: ProposedValue<'a>,
 }
 
@@ -102,12 +102,21 @@ impl Proposals {
         }
     }
 
+    // A number of a vertex's row.
+    #[inline(always)]
+    fn height(&self, digit: usize, v: u32) -> u64
+        requires { digit ≤ COMPONENTS }
+        ensures { result ≡ height_in self.now digit v }
+    {
+        let first = v as usize * (self.width as usize + 1);
+        self.rows.get(first + digit).copied().unwrap_or(0)
+    }
+
     /// Who is said to win a vertex.
     pub fn winner(&self, v: u32) -> Player
-        requires { v < length self.now.numbers.items }
         ensures { result ≡ winner_at self.now v }
     {
-        winner(self.numbers[v as usize])
+        winner(self.height(0, v))
     }
 
     // What a number says of a player's value.
@@ -125,58 +134,46 @@ impl Proposals {
 
     // The value that is proposed for a player at a vertex.
     #[inline(always)]
+    #[tactic(auto, using(crate::proofs::StoredProposals::value_there))]
     fn proposed(&self, player: Player, v: u32) -> ProposedValue<'_>
-        requires { v < length self.now.numbers.items }
+        requires { v < self.now.vertices }
         ensures value { value_said result ≡ value_at (values_of player self.now) v }
         ensures layout { result.layout.now ≡ layout_of player self.now }
     {
-        self.said(player, self.numbers[v as usize])
+        self.said(player, self.height(0, v))
     }
 
     /// The value that is proposed for a player at a vertex, and top where there is no such vertex.
     #[inline(always)]
+    #[tactic(auto, using(crate::proofs::StoredProposals::value_past))]
     pub fn value(&self, player: Player, v: usize) -> Measure
         ensures { result ≡ value_at (values_of player self.now) v }
     {
-        match self.numbers.get(v) {
-            Some(number) => self.said(player, *number).measure(),
-            None => Measure::top(),
+        if v < self.vertices as usize {
+            self.proposed(player, v as u32).measure()
+        } else {
+            Measure::top()
         }
     }
 
-    #[inline(always)]
-    fn height(&self, digit: usize, v: u32) -> u64
-        requires { digit ≤ COMPONENTS }
-        ensures { result ≡ height_in self.now digit v }
-    {
-        let height = if digit == 0 {
-            self.numbers.get(v as usize)
-        } else {
-            self.heights
-                .get(v as usize * self.width as usize + (digit - 1))
-        };
-        height.copied().unwrap_or(0)
-    }
-
     // Whether what counts of the height falls along an edge, or stays where it may.
-    fn falls(&self, player: Player, digit: usize, priority: u8, v: u32, next: u32) -> bool
-        requires { digit ≤ COMPONENTS }
-        ensures { (g : Game) → IsTrue result ↔ HeightFalls (proposal_in player self.now g) digit priority v next }
+    #[inline(always)]
+    fn falls(&self, at: &ProposedVertex<'_>, digit: usize, next: u32) -> bool
+        requires known { IsProposedAt self.now at.now }
+        requires digit { digit ≤ COMPONENTS }
+        ensures { (g : Game) → IsTrue result ↔ HeightFalls (proposal_in at.now.player self.now g) digit at.now.priority at.now.v next }
     {
-        let shift = self.layout(player).shift(priority as usize);
-        let own = self.height(digit, v) >> shift;
-        let other = self.height(digit, next) >> shift;
-        other < own || (other == own && priority % 2 == 1)
+        let own = self.height(digit, at.v) >> at.shift;
+        let other = self.height(digit, next) >> at.shift;
+        other < own || (other == own && at.priority % 2 == 1)
     }
 
     // Whether an edge is a reason for what the value of a vertex has at a digit.
     #[tactic(auto, unfolding(crate::specs::Proposal::IsReason))]
     fn is_reason(&self, at: &ProposedVertex<'_>, digit: usize, next: u32) -> bool
-        requires own { value_said at.now.own ≡ value_at (values_of at.now.player self.now) at.now.v }
-        requires layout { at.now.own.layout.now ≡ layout_of at.now.player self.now }
+        requires known { IsProposedAt self.now at.now }
         requires digit { digit ≤ at.now.width }
-        requires few { at.now.width ≤ COMPONENTS }
-        requires next { next < length self.now.numbers.items }
+        requires next { next < self.now.vertices }
 
         ensures { (g : Game) → length (components g) ≡ at.now.width
             → IsTrue result → IsReason (proposal_in at.now.player self.now g) digit at.now.priority at.now.v next }
@@ -186,7 +183,7 @@ impl Proposals {
         match (at.priority as usize).cmp(&counted_at) {
             Ordering::Less => match at.own.compare_first(other, digit) {
                 Ordering::Less => true,
-                Ordering::Equal => self.falls(at.player, digit, at.priority, at.v, next),
+                Ordering::Equal => self.falls(at, digit, next),
                 Ordering::Greater => false,
             },
             Ordering::Equal => at.own.has_all_but_one(other, digit),
@@ -197,9 +194,8 @@ impl Proposals {
     // Whether the value of a vertex reaches that of the next one.
     #[inline(always)]
     fn reaches(&self, at: &ProposedVertex<'_>, next: u32) -> bool
-        requires own { value_said at.now.own ≡ value_at (values_of at.now.player self.now) at.now.v }
-        requires layout { at.now.own.layout.now ≡ layout_of at.now.player self.now }
-        requires next { next < length self.now.numbers.items }
+        requires known { IsProposedAt self.now at.now }
+        requires next { next < self.now.vertices }
         ensures { (g : Game) → length (components g) ≡ at.now.width → (IsTrue result ↔ ReachesFrom g (values_of at.now.player self.now) at.now.priority at.now.v next) }
     {
         let other = self.proposed(at.player, next);
@@ -208,9 +204,8 @@ impl Proposals {
 
     // The first successor that the value of a vertex reaches.
     fn first_reached(&self, at: &ProposedVertex<'_>, successors: &[u32]) -> Option<u32>
-        requires own { value_said at.now.own ≡ value_at (values_of at.now.player self.now) at.now.v }
-        requires layout { at.now.own.layout.now ≡ layout_of at.now.player self.now }
-        requires inside { AllByRecursion (λ t. t < length self.now.numbers.items) successors.now }
+        requires known { IsProposedAt self.now at.now }
+        requires inside { AllByRecursion (λ t. t < self.now.vertices) successors.now }
         ensures { IfSome result (λ next. (g : Game) → length (components g) ≡ at.now.width
             → IsFirstOf (ReachesFrom g (values_of at.now.player self.now) at.now.priority at.now.v) successors.now next) }
     {
@@ -224,9 +219,8 @@ impl Proposals {
 
     // Whether the value of a vertex reaches all successors.
     fn reaches_all(&self, at: &ProposedVertex<'_>, successors: &[u32]) -> bool
-        requires own { value_said at.now.own ≡ value_at (values_of at.now.player self.now) at.now.v }
-        requires layout { at.now.own.layout.now ≡ layout_of at.now.player self.now }
-        requires inside { AllByRecursion (λ t. t < length self.now.numbers.items) successors.now }
+        requires known { IsProposedAt self.now at.now }
+        requires inside { AllByRecursion (λ t. t < self.now.vertices) successors.now }
         ensures { (g : Game) → length (components g) ≡ at.now.width
             → IsTrue result → (t : ℕ) → Contains successors.now t → ReachesFrom g (values_of at.now.player self.now) at.now.priority at.now.v t }
     {
@@ -240,9 +234,8 @@ impl Proposals {
 
     // The move of a vertex of this owner, if its value reaches enough: the first successor that it reaches where the player chooses.
     fn move_of(&self, at: &ProposedVertex<'_>, owner: Player, successors: &[u32]) -> Option<u32>
-        requires own { value_said at.now.own ≡ value_at (values_of at.now.player self.now) at.now.v }
-        requires layout { at.now.own.layout.now ≡ layout_of at.now.player self.now }
-        requires inside { AllByRecursion (λ t. t < length self.now.numbers.items) successors.now }
+        requires known { IsProposedAt self.now at.now }
+        requires inside { AllByRecursion (λ t. t < self.now.vertices) successors.now }
         ensures { IfSome result (λ next. (g : Game) → length (components g) ≡ at.now.width
             → IsFirstMoveBy owner (ReachesFrom g (values_of at.now.player self.now) at.now.priority at.now.v) successors.now next) }
     {
@@ -261,11 +254,9 @@ impl Proposals {
         asker: Player,
         successors: &[u32],
     ) -> bool
-        requires own { value_said at.now.own ≡ value_at (values_of at.now.player self.now) at.now.v }
-        requires layout { at.now.own.layout.now ≡ layout_of at.now.player self.now }
+        requires known { IsProposedAt self.now at.now }
         requires digit { digit ≤ at.now.width }
-        requires few { at.now.width ≤ COMPONENTS }
-        requires inside { AllByRecursion (λ t. t < length self.now.numbers.items) successors.now }
+        requires inside { AllByRecursion (λ t. t < self.now.vertices) successors.now }
 
         ensures { (g : Game) → length (components g) ≡ at.now.width
             → IsTrue result → AreEnough asker (IsReason (proposal_in at.now.player self.now g) digit at.now.priority at.now.v) successors.now }
@@ -281,10 +272,8 @@ impl Proposals {
 
     // Whether the value of a vertex of this owner has its reasons.
     fn has_reasons(&self, at: &ProposedVertex<'_>, owner: Player, successors: &[u32]) -> bool
-        requires own { value_said at.now.own ≡ value_at (values_of at.now.player self.now) at.now.v }
-        requires layout { at.now.own.layout.now ≡ layout_of at.now.player self.now }
-        requires few { at.now.width ≤ COMPONENTS }
-        requires inside { AllByRecursion (λ t. t < length self.now.numbers.items) successors.now }
+        requires known { IsProposedAt self.now at.now }
+        requires inside { AllByRecursion (λ t. t < self.now.vertices) successors.now }
 
         ensures { (g : Game) → vertex_at g at.now.v ≡ Some record { owner = owner; priority = at.now.priority; successors = successors.now }
             → length (components g) ≡ at.now.width
@@ -307,8 +296,8 @@ impl Proposals {
         v: u32,
         vertex: VertexView<'_>,
     ) -> Option<u32>
-        requires vertex { v < length self.now.numbers.items }
-        requires inside { AllByRecursion (λ t. t < length self.now.numbers.items) vertex.successors.now }
+        requires vertex { v < self.now.vertices }
+        requires inside { AllByRecursion (λ t. t < self.now.vertices) vertex.successors.now }
         ensures good { IfSome result (λ _. (g : Game) → vertex_at g v ≡ Some (lent_vertex vertex.entry) → AreBoundsIn g bounds.now
             → IsGoodVertex (proposal_in player self.now g) v) }
         ensures next { IfSome result (λ next. (g : Game) → vertex_at g v ≡ Some (lent_vertex vertex.entry) → AreBoundsIn g bounds.now
@@ -316,7 +305,7 @@ impl Proposals {
     {
         let own = self.proposed(player, v);
         let width = bounds.len();
-        if width > COMPONENTS || !(own.is_top || are_within(own.measure().counts(), bounds)) {
+        if width > COMPONENTS || !own.is_within(bounds) {
             return None;
         }
         let at = ProposedVertex {
@@ -324,6 +313,7 @@ impl Proposals {
             width,
             v,
             priority: vertex.priority,
+            shift: own.layout.shift(vertex.priority as usize),
             own,
         };
         let VertexView {

@@ -1,12 +1,14 @@
 // Values that are proposed, as numbers have them.
 
-ghost use Rattle.std.specs.Prelude.{◌≡◌, ◌≤◌, ◌↔◌, ◌+◌, ◌-◌, IsTrue, length};
+ghost use Rattle.std.specs.Prelude.{◌≡◌, ◌≢◌, ◌≤◌, ◌↔◌, ◌+◌, ◌-◌, IsTrue, length};
+ghost use Rattle.std.specs.List.{AllZip};
 ghost use Rattle.std.specs.Cmp.Lexicographic.{slice_cmp};
 ghost use Rattle.std.specs.Ordering.{nat_cmp};
 ghost use Rattle.game.specs.Game.{Game};
-ghost use Rattle.measures.specs.Measure.{Counts, Reaches, components, cut, digit_of, measure_cmp};
+ghost use Rattle.measures.specs.Measure.{Counts, Reaches, Top, components, cut, digit_of, measure_cmp};
 ghost use Rattle.measures.specs.Proposal.{MatchUpTo};
 ghost use Rattle.measures.specs.StoredProposal.{counts_in, value_said};
+ghost use Rattle.measures.specs.View.{counts_of};
 
 use crate::field::CountField;
 use crate::measure::{COMPONENTS, Measure, is_reach};
@@ -47,6 +49,21 @@ fn counts_of(fields: &[CountField], number: u64) -> ArrayVec<u32, 16>
     counts
 }
 
+// Whether no count that a number has in fields is above its bound.
+fn are_within(fields: &[CountField], number: u64, bounds: &[u32]) -> bool
+    ensures { IsTrue result → AllZip (λ count bound. count ≤ bound) (counts_in fields.now number) bounds.now }
+{
+    if fields.len() != bounds.len() {
+        return false;
+    }
+    for place in 0..fields.len() {
+        if fields[place].count(number) > bounds[place] {
+            return false;
+        }
+    }
+    true
+}
+
 impl ProposedValue<'_> {
     /// The value as a measure.
     #[inline(always)]
@@ -58,6 +75,14 @@ impl ProposedValue<'_> {
         } else {
             Measure::of_array(counts_of(self.layout.fields.as_slice(), self.number))
         }
+    }
+
+    /// Whether the value is top, or has as many counts as there are bounds and none above its bound.
+    #[inline(always)]
+    pub(crate) fn is_within(self, bounds: &[u32]) -> bool
+        ensures { IsTrue result → value_said self.entry ≢ Top → AllZip (λ count bound. count ≤ bound) (counts_of (value_said self.entry)) bounds.now }
+    {
+        self.is_top || are_within(self.layout.fields.as_slice(), self.number, bounds)
     }
 
     /// A digit of the value.

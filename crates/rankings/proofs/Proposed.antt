@@ -4,7 +4,7 @@ use Rattle.std.proofs.Common.{Bool, Vec, Global}
 use Rattle.std.specs.Prelude.{None, Some, if◌then◌else◌, slice_get, slice_index_or}
 use Rattle.std.specs.List.{AllByRecursion}
 use Rattle.std.proofs.lemmas.Bool.Decides.{eqb_tells}
-use Rattle.std.proofs.lemmas.List.{get_or-map, get_or_append_left, get_or_at, length-append, length-map}
+use Rattle.std.proofs.lemmas.List.{get_or-map, get_or_append_left, get_or_at, length-append}
 use Rattle.std.proofs.lemmas.List.Elements.{All-from_recursion}
 use Rattle.std.proofs.lemmas.Option.{get_or_from_slice_get, slice_get_within}
 use Rattle.systems.specs.System.{System}
@@ -23,7 +23,7 @@ use Rattle.measures.specs.Progress.{IsLeastTable}
 use Rattle.measures.specs.Laws.{IsBestMove}
 use Rattle.measures.specs.Measure.{Measure}
 use Rattle.measures.specs.Proposal.{IsGoodVertex, IsFirstMove, IsFirstMoveBy, ReachesFrom}
-use Rattle.measures.specs.StoredProposal.{game_for, layout_of, move_said, proposal_in, shift_in, value_of, values_of, winner_at}
+use Rattle.measures.specs.StoredProposal.{game_for, layout_of, move_said, proposal_in, shift_in, values_of, winner_at}
 use Rattle.measures.specs.declared.proposal.Proposals.{Proposals}
 use Rattle.rankings.specs.Least.{AreTestedTo, AreWinnersMoves, IsTestedAt, tested_arena}
 use Rattle.rankings.specs.declared.least.LeastTest.{LeastTest}
@@ -36,6 +36,7 @@ use Rattle.rankings.proofs.Places.{arena_long}
 use Rattle.measures.proofs.Lists.{all_contained, all_got}
 use Rattle.measures.proofs.Moves.{first_reached}
 use Rattle.measures.proofs.Proposals.{good_least}
+use Rattle.measures.proofs.StoredProposals.{values_long}
 
 -- the vertex of a state with a node is within a game's limits
 vertex_low : (l : System) (nodes : List Node) (s k : ℕ) (node : Node) → IsForm nodes → 2 + l.states * length nodes ≤ 16777216 → s < l.states
@@ -53,17 +54,17 @@ vertex_low l nodes s k node form few below at =
 pub record IsSeen (c : Proposals) (l : System) (nodes : List Node) (v : ℕ) (x : Vertex) : Type 0 where
   pub is : vertex (arena l nodes) v ≡ Some x
   pub low : x.priority < 255
-  pub within : AllByRecursion (λ t. t < length c.numbers.items) x.successors
+  pub within : AllByRecursion (λ t. t < c.vertices) x.successors
 
 pub seen : (c : Proposals) (l : Numbered) (nodes : List Node) (sets : List (List Bool)) (n s k : ℕ) (set : List Bool) (row : List Transition) (node : Node)
-    (x : Vertex) → IsForm nodes → 2 + l.system.states * length nodes ≤ 16777216 → length c.numbers.items ≡ 2 + l.system.states * length nodes
+    (x : Vertex) → IsForm nodes → 2 + l.system.states * length nodes ≤ 16777216 → c.vertices ≡ 2 + l.system.states * length nodes
     → s < l.system.states → AreSets l.labels nodes sets → slice_index_or sets k [] ≡ set → n ≡ length nodes → slice_get nodes k ≡ Some node
     → IsRowOf l s row → x ≡ vertex_by n s (picks (is_in set) 0 row) node → IsSeen c l.system nodes (place n s k) x
 seen c l nodes sets n s k set row node x form few long below are there count at of_state told =
     let passes : IsSetFor l.labels node.shape set = subst (IsSetFor l.labels node.shape) there (are k node at) in
     let same : vertex_of l.system (length nodes) s node ≡ x = sym (told ∙ (ap (λ m. vertex_by m s (picks (is_in set) 0 row) node) count
     ∙ step_vertex_is l (length nodes) s set row node of_state passes)) in
-    let good : IsVertex (length c.numbers.items) x = subst (λ m. IsVertex m x) (sym long)
+    let good : IsVertex c.vertices x = subst (λ m. IsVertex m x) (sym long)
     (subst (IsVertex (2 + l.system.states * length nodes)) same (vertex_low l.system nodes s k node form few below at)) in
     record {
       is = ap (λ m. vertex (arena l.system nodes) (place m s k)) count ∙ (vertex_is l.system nodes s k node below at ∙ ap Some same);
@@ -85,11 +86,11 @@ sink_is l nodes (suc zero) h = refl
 sink_is l nodes (suc (suc v)) h = absurd (omega arith)
 
 -- the values of a player
-pub least_for : (player : Player) (c : Proposals) (g : Game) → IsGame g → length c.numbers.items ≡ length g.vertices
+pub least_for : (player : Player) (c : Proposals) (g : Game) → IsGame g → c.vertices ≡ length g.vertices
     → ((p : ℕ) → shift_in (layout_of player c) p ≤ shift_in (layout_of player c) (suc p))
     → ((v : ℕ) → v < length g.vertices → IsGoodVertex (proposal_in player c g) v) → IsLeastTable g (values_of player c)
 least_for player c g game long rising good = good_least (proposal_in player c g) game (record {
-  long = length-map c.numbers.items (value_of player (layout_of player c)) ∙ long;
+  long = values_long player c ∙ long;
   rising = rising;
   vertices = good;
 })
@@ -135,9 +136,9 @@ tested_more t moves n next before here = record { count = (let l = length-append
 
 -- where all vertices are tested
 module _ (t : LeastTest) (few : 2 + t.lts.now.system.states * length (normal_nodes t.form.now) ≤ 16777216)
-    (numbers : length t.proposals.now.numbers.items ≡ 2 + t.lts.now.system.states * length (normal_nodes t.form.now)) (form : IsForm (normal_nodes t.form.now))
+    (vertices : t.proposals.now.vertices ≡ 2 + t.lts.now.system.states * length (normal_nodes t.form.now)) (form : IsForm (normal_nodes t.form.now))
     (moves : List ℕ)
-    (tested : AreTestedTo t moves (length t.proposals.now.numbers.items)) where
+    (tested : AreTestedTo t moves t.proposals.now.vertices) where
   abbrev g : Game
   g = tested_arena t
 
@@ -147,8 +148,8 @@ module _ (t : LeastTest) (few : 2 + t.lts.now.system.states * length (normal_nod
   dual_game : IsGame (dual g)
   dual_game = dual_is_game g game (arena_low t.lts.now.system (normal_nodes t.form.now) form)
 
-  long : length t.proposals.now.numbers.items ≡ length g.vertices
-  long = numbers ∙ sym (arena_long t.lts.now.system (normal_nodes t.form.now))
+  long : t.proposals.now.vertices ≡ length g.vertices
+  long = vertices ∙ sym (arena_long t.lts.now.system (normal_nodes t.form.now))
 
   pub even_least : ((p : ℕ) → shift_in t.proposals.now.even p ≤ shift_in t.proposals.now.even (suc p)) → IsLeastTable g (values_of Even t.proposals.now)
   even_least rising = least_for Even t.proposals.now g game long rising (λ v h. (tested.each v (let l = long in omega arith)).even)

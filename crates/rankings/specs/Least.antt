@@ -33,7 +33,7 @@ pub record IsLeastTest (t : LeastTest) : Type 0 where
   pub sets : AreSets t.lts.now.labels (normal_nodes t.form.now) (map (λ set. set.items) t.sets.now)
   pub count : length t.sets.now ≡ length (normal_nodes t.form.now)
   pub few : 2 + t.lts.now.system.states * length (normal_nodes t.form.now) ≤ MOST_VERTICES
-  pub long : length t.proposals.now.numbers.items ≡ 2 + t.lts.now.system.states * length (normal_nodes t.form.now)
+  pub long : t.proposals.now.vertices ≡ 2 + t.lts.now.system.states * length (normal_nodes t.form.now)
   pub even : AreBoundsIn (tested_arena t) t.bounds.now.even.items
   pub odd : AreBoundsIn (dual (tested_arena t)) t.bounds.now.odd.items
 
@@ -44,6 +44,6 @@ pub record AreTestedTo (t : LeastTest) (moves : List ℕ) (end : ℕ) : Type 0 w
 
 -- For each vertex there is the best move of the one who is said to win it.
 pub record AreWinnersMoves (c : Proposals) (g : Game) (moves : List ℕ) : Type 0 where
-  pub count : length moves ≡ length c.numbers.items
+  pub count : length moves ≡ c.vertices
   pub best : (v : ℕ) (x : Vertex) → let p = winner_at c v in vertex (game_for p g) v ≡ Some x
       → IsBestMove (game_for p g) (values_of p c) x (move_said (slice_index_or moves v 0))

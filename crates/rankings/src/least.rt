@@ -103,8 +103,8 @@ fn good_move(
     v: u32,
     vertex: VertexView<'_>,
 ) -> Option<u32>
-    requires vertex { v < length proposals.now.numbers.items }
-    requires inside { AllByRecursion (λ t. t < length proposals.now.numbers.items) vertex.successors.now }
+    requires vertex { v < proposals.now.vertices }
+    requires inside { AllByRecursion (λ t. t < proposals.now.vertices) vertex.successors.now }
     requires few { vertex.priority < 255 }
     ensures { IfSome result (λ next. (g : Game) → vertex_at g v ≡ Some (lent_vertex vertex.entry) → AreBoundsIn g bounds.now.even.items
         → AreBoundsIn (dual g) bounds.now.odd.items → IsTestedAt proposals.now g v next) }
@@ -173,11 +173,11 @@ impl LeastTest<'_> {
     // The moves of all vertices, if all that is proposed is good.
     fn test_all(&self, alloc: Global) -> Result<Option<Vec<u32>>, AllocError>
         requires { IsLeastTest self.now }
-        ensures { IfOk result (λ found. IfSome found (λ moves. AreTestedTo self.now moves.items (length self.now.proposals.now.numbers.items))) }
+        ensures { IfOk result (λ found. IfSome found (λ moves. AreTestedTo self.now moves.items self.now.proposals.now.vertices)) }
     {
         let mut row = Vec::new(alloc);
         let mut reached = Vec::new(alloc);
-        let mut moves = Vec::with_capacity(alloc, self.proposals.numbers.len())?;
+        let mut moves = Vec::with_capacity(alloc, self.proposals.vertices as usize)?;
         if !self.test_sinks(&mut moves)? {
             return Ok(None);
         }
@@ -198,7 +198,7 @@ fn tested_moves(
     proposals: &Proposals,
 ) -> Result<Option<Vec<u32>>, AllocError>
     requires few { 2 + lts.now.system.states * length (normal_nodes form.now) ≤ MOST_VERTICES }
-    requires long { length proposals.now.numbers.items ≡ 2 + lts.now.system.states * length (normal_nodes form.now) }
+    requires long { proposals.now.vertices ≡ 2 + lts.now.system.states * length (normal_nodes form.now) }
 
     ensures even { IfOk result (λ found. IfSome found (λ _. IsLeastTable (arena lts.now.system (normal_nodes form.now)) (values_of Even proposals.now))) }
     ensures odd { IfOk result (λ found. IfSome found (λ _. IsLeastTable (dual (arena lts.now.system (normal_nodes form.now))) (values_of Odd proposals.now))) }
@@ -242,7 +242,7 @@ pub fn least_moves(
 {
     form.known();
     let vertices = 2 + u64::from(lts.states()) * u64::from(form.count());
-    if vertices <= MOST_VERTICES as u64 && proposals.numbers.len() as u64 == vertices {
+    if vertices <= MOST_VERTICES as u64 && u64::from(proposals.vertices) == vertices {
         tested_moves(alloc, lts, form, proposals).unwrap_or(None)
     } else {
         None

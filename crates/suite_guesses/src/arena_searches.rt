@@ -178,11 +178,12 @@ fn unit(proposals: &Proposals, number: u64) -> u64 {
     }
 }
 
-fn make_wrong(proposals: &mut Proposals, v: usize, how: WrongMeasure) {
-    if v < proposals.numbers.len() {
-        let number = proposals.numbers[v];
+fn make_wrong(proposals: &mut Proposals, v: u32, how: WrongMeasure) {
+    let place = (v as usize).saturating_mul((proposals.width as usize).saturating_add(1));
+    if place < proposals.rows.len() {
+        let number = proposals.rows[place];
         let one = unit(proposals, number);
-        proposals.numbers[v] = match how {
+        proposals.rows[place] = match how {
             WrongMeasure::Winner if number % 2 == 1 => number.wrapping_sub(1),
             WrongMeasure::Winner => number.wrapping_add(1),
             WrongMeasure::More => number.wrapping_add(one),
@@ -194,9 +195,8 @@ fn make_wrong(proposals: &mut Proposals, v: usize, how: WrongMeasure) {
 // Proposals of a question are refused once the number of a vertex was made wrong.
 fn is_refused(rt: &impl Host, question: &Question, dice: &mut Dice, how: WrongMeasure) {
     if let Some(mut proposals) = proposed(rt, question) {
-        let vertices = u32::try_from(proposals.numbers.len()).unwrap_or(3);
-        let v = 2 + dice.roll(vertices.saturating_sub(2).max(1));
-        make_wrong(&mut proposals, v as usize, how);
+        let v = 2 + dice.roll(proposals.vertices.saturating_sub(2).max(1));
+        make_wrong(&mut proposals, v, how);
         holds!(rt; least_moves(rt.alloc(), &question.lts, &question.form, &proposals).is_none());
         drop(proposals);
     }
@@ -216,11 +216,21 @@ fn wrong_measures_are_refused(rt: HostRuntime) {
     }
 }
 
+// Makes all heights zero.
+fn drop_heights(proposals: &mut Proposals) {
+    let stride = (proposals.width as usize).saturating_add(1);
+    for place in 0..proposals.rows.len() {
+        if place.checked_rem(stride) != Some(0) {
+            proposals.rows[place] = 0;
+        }
+    }
+}
+
 // Whether the proposals of a question are refused without their heights.
 fn needs_heights(rt: &impl Host, question: &Question) -> bool {
     match proposed(rt, question) {
         Some(mut proposals) => {
-            proposals.heights.clear();
+            drop_heights(&mut proposals);
             let moves = least_moves(rt.alloc(), &question.lts, &question.form, &proposals);
             drop(proposals);
             moves.is_none()

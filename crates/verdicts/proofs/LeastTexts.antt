@@ -1,7 +1,6 @@
 -- The text of a player's evidence is what least measures and moves are written as.
 use Rattle.std.proofs.Common.{◌≡◌, ℕ, zero, suc, ◌+◌, ◌<◌, ◌≤◌, List, [], ◌++◌, length, refl, sym, ap, subst, ◌∙◌, inl, inr, arith, Some, Option, append_assoc}
 use Rattle.std.specs.Prelude.{slice_index_or}
-use Rattle.std.proofs.lemmas.List.{get_or-map, length-map}
 use Rattle.std.proofs.lemmas.Option.{slice_get_cases}
 use Rattle.text.specs.Pieces.{line_end}
 use Rattle.text.specs.Wrote.{lines_from}
@@ -11,8 +10,9 @@ use Rattle.game.specs.Game.{Game, Vertex, vertex}
 use Rattle.measures.specs.Laws.{IsBestMove}
 use Rattle.measures.specs.Measure.{Counts, Measure, Top}
 use Rattle.measures.specs.Progress.{IsLeastTable, value_at}
-use Rattle.measures.specs.StoredProposal.{counts_in, game_for, layout_of, move_said, value_if, value_of, values_of, winner_at}
+use Rattle.measures.specs.StoredProposal.{counts_in, game_for, height_in, layout_of, move_said, value_if, values_of, winner_at}
 use Rattle.measures.specs.declared.field.CountField.{CountField}
+use Rattle.measures.proofs.StoredProposals.{value_there, values_long}
 use Rattle.laws.proofs.LeastExists.{least_unique}
 use Rattle.evidence.specs.Best.{IsBestOf, IsEvenOf}
 use Rattle.evidence.specs.Canon.{entry_line, entry_line_at, entry_line_of, entry_lines, evidence_text, header}
@@ -58,24 +58,21 @@ lines_same f h a (suc n) each =
     λ i. first i ++ rest i
 
 module _ (m : LeastMeasures) (g : Game) (least : AreLeastMeasures m g) (e : Evidence) (is : IsBestOf m.player g e) where
-  abbrev numbers : List ℕ
-  numbers = m.proposals.now.numbers.items
-
-  long : length numbers ≡ length (game_for m.player g).vertices
-  long = sym (length-map numbers (value_of m.player (layout_of m.player m.proposals.now))) ∙ least.least.progress.0.0
+  long : m.proposals.now.vertices ≡ length (game_for m.player g).vertices
+  long = sym (values_long m.player m.proposals.now) ∙ least.least.progress.0.0
 
   module _ (v : ℕ) (inside : v < length m.moves.now) where
-    there : v < length numbers
+    there : v < m.proposals.now.vertices
     there = let c = least.moves.count in omega (arith, inside, c)
 
     abbrev number : ℕ
-    number = slice_index_or numbers v 0
+    number = height_in m.proposals.now 0 v
 
     abbrev fields : List CountField
     fields = (layout_of m.player m.proposals.now).fields.items
 
     value_is : value_at (values_of m.player m.proposals.now) v ≡ value_if m.player (winner_at m.proposals.now v) fields number
-    value_is = get_or-map (value_of m.player (layout_of m.player m.proposals.now)) numbers v 0 Top there
+    value_is = value_there m.player m.proposals.now v there
 
     abbrev Line : Measure → Type 0
     Line value = entry_line_of v (entry_by value (move_said (slice_index_or m.moves.now v 0))) ≡ entry_line_at e.entries v

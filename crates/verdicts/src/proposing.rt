@@ -58,14 +58,14 @@ fn layout(guess: &GuessedLayout) -> PlayerLayout {
 
 /// What is guessed of the least measures of both players, to be tested.
 pub fn proposals_of(guess: GuessedMeasures) -> Proposals
-    ensures { result.numbers ≡ guess.numbers }
+    ensures { result.rows ≡ guess.rows }
 {
     Proposals {
+        vertices: guess.vertices,
+        width: guess.width,
         even: layout(&guess.even),
         odd: layout(&guess.odd),
-        numbers: guess.numbers,
-        heights: guess.heights,
-        width: guess.width,
+        rows: guess.rows,
     }
 }
 
@@ -88,8 +88,8 @@ pub(crate) fn least_of(alloc: Global, system: &Lts, form: &Normal) -> Option<(Pr
     Some((proposals, moves))
 }
 
-/// The least measures of both players, as they are guessed and found good. There are none where the guess isn't good, where a limit is passed, or for want of
-/// memory; nor where a board is named, over which workers are to lift. An observer is told that they are searched for.
+/// The least measures of both players, as they are guessed and found good. There are none where the guess isn't good, where a limit is passed, or where
+/// memory runs out; nor where a board is named, over which workers are to lift. An observer is told that they are searched for.
 pub fn least_found<O: Observer>(
     alloc: Global,
     texts: &Texts,

@@ -1,10 +1,8 @@
-use Rattle.measures.proofs.Common.{◌≤◌, ◌∙◌, List, ℕ, ap, counts_of, subst, sym, AllZip, IsMeasure}
+use Rattle.measures.proofs.Common.{◌≤◌, subst, IsMeasure}
 use Rattle.measures.specs.StoredProposal.{value_said}
 use Rattle.measures.proofs.StoredProposals.{bounds_wide, enough_for, measure_bounded}
-use Rattle.measures.proofs.Values.{top_said}
 use Rattle.game.specs.Lent.{lent_vertex}
 use Rattle.measures.proofs.proposal.Proposals.good_move.Goals as goal
-use Rattle.measures.proofs.proposal.Proposals.good_move.Goals.{then-own, else-own}
 
 pub returns-then-has_reasons-clause-good : goal.returns-then-has_reasons-clause-good
 returns-then-has_reasons-clause-good c = λ g at bounded.
@@ -12,11 +10,8 @@ returns-then-has_reasons-clause-good c = λ g at bounded.
     let x = lent_vertex c.args.vertex in
     let wide = bounds_wide g bounds bounded in
     record {
-      measure = subst (IsMeasure g) c.proposed-own.ensures.value (measure_bounded g (value_said c.proposed-own.result) bounds bounded (λ n. elim c.if-own.branch [
-        | then-own w ↦ absurd (n (top_said c.proposed-own.result w.if-own.true))
-        | else-own w ↦ subst (λ (xs : List ℕ). AllZip (λ count bound. count ≤ bound) xs bounds) (w.counts.ensures.value ∙ ap counts_of w.measure.ensures)
-            (w.are_within.ensures.0 (sym w.value-is ∙ c.if-not-are_within.false))
-      ]));
+      measure = subst (IsMeasure g) c.proposed-own.ensures.value (measure_bounded g (value_said c.proposed-own.result) bounds bounded
+          (c.is_within.ensures c.if-not-is_within.false));
       reaches = (x, at, enough_for x.owner _ x.successors c.in_ok-next.next (c.in_ok-next.ensures g wide));
       reasons = λ digit l. c.has_reasons.ensures g at wide c.if-has_reasons.true digit (subst (λ n. digit ≤ n) wide l);
     }

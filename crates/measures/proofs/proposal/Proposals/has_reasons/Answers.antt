@@ -15,7 +15,7 @@ loop-digit-preserved c = λ g at wide.
     let found : (digit_of (value_at now.values v) digit ≡ 0) ⊎ AreEnough x.owner (IsReason now digit x.priority v) x.successors =
     elim c.else-digit-ne0.branch [
       | else-digit-ne0-via-then-digit-ne0+else-not-are_enough w ↦ inr (w.are_enough.ensures g wide w.if-not-are_enough.false)
-      | else-digit-ne0-via-else-digit-ne0 w ↦ inl (sym (ap (λ (m : Measure). digit_of m digit) c.requires.own) ∙ (sym c.digit.ensures ∙ w.if-digit-ne0.false))
+      | else-digit-ne0-via-else-digit-ne0 w ↦ inl (sym (ap (λ (m : Measure). digit_of m digit) c.requires.known.own) ∙ (sym c.digit.ensures ∙ w.if-digit-ne0.false))
     ] in
     below_more (λ k. HasReasonsFor now k v) digit (c.loop-digit.invariant g at wide) (reasons_for now x v digit at found)
 
@@ -28,6 +28,6 @@ returns-else-digit-ne0 c = λ g at wide so k l.
     let found : (digit_of (value_at now.values v) digit ≡ 0) ⊎ AreEnough x.owner (IsReason now digit x.priority v) x.successors =
     elim c.else-digit-ne0.branch [
       | else-digit-ne0-via-then-digit-ne0+else-not-are_enough w ↦ inr (w.are_enough.ensures g wide w.if-not-are_enough.false)
-      | else-digit-ne0-via-else-digit-ne0 w ↦ inl (sym (ap (λ (m : Measure). digit_of m digit) c.requires.own) ∙ (sym c.digit.ensures ∙ w.if-digit-ne0.false))
+      | else-digit-ne0-via-else-digit-ne0 w ↦ inl (sym (ap (λ (m : Measure). digit_of m digit) c.requires.known.own) ∙ (sym c.digit.ensures ∙ w.if-digit-ne0.false))
     ] in
     below_more (λ i. HasReasonsFor now i v) digit (c.loop-digit.invariant g at wide) (reasons_for now x v digit at found) k (omega arith)

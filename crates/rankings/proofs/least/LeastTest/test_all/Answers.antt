@@ -14,5 +14,5 @@ returns c =
     let past = c.loop-state-test.false in
     let in_end = c.loop-state.auto.state-end in
     let all : state ≡ t.lts.now.system.states = omega (arith, count, past, in_end) in
-    let whole : place n t.lts.now.system.states 0 ≡ length t.proposals.now.numbers.items = omega (arith, long) in
+    let whole : place n t.lts.now.system.states 0 ≡ t.proposals.now.vertices = omega (arith, long) in
     subst (AreTestedTo t c.loop-state.moves.items) (ap (λ s. place n s 0) all ∙ whole) c.loop-state.invariant

@@ -14,27 +14,27 @@ use std::mem;
 pub(crate) type Later = (Reverse<u32>, usize, usize);
 
 impl ArenaSearch<'_> {
-    /// More lost vertices than so many aren't mended.
+    /// More lost vertices than so many aren't repaired.
     pub(crate) fn many_lost(&self) -> usize {
         (self.arena.states / 16).saturating_add(64)
     }
 
     /// Has rounds follow each other after the one in which what is lost was lost, as long as they change little. The answer is whether a climb has to follow.
-    pub(crate) fn mend_rounds(&mut self) -> bool {
+    pub(crate) fn repair_rounds(&mut self) -> bool {
         for _ in 0..u64::MAX {
             if self.lost.is_empty() {
                 return false;
             }
-            if self.left == 0 || !self.mend() {
+            if self.left == 0 || !self.repair() {
                 return true;
             }
-            self.close_mended();
+            self.close_repaired();
         }
         false
     }
 
     // Takes away what is lost and what rests on it, and gains again what has another support. The answer is whether that wasn't too much.
-    fn mend(&mut self) -> bool {
+    fn repair(&mut self) -> bool {
         self.gone.clear();
         if self.lost.len() > self.many_lost() {
             return false;
@@ -163,7 +163,7 @@ impl ArenaSearch<'_> {
     }
 
     // What stays gone is gained by the player of the next block in the round at hand, and in the round after it the binders over what has changed.
-    fn close_mended(&mut self) {
+    fn close_repaired(&mut self) {
         mem::swap(&mut self.todo, &mut self.lost);
         for place in 0..self.gone.len() {
             let vertex = self.gone.get_or(place, NOWHERE);
