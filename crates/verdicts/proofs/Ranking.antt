@@ -1,5 +1,5 @@
 -- From the winners at the root node to the marks of a check.
-use Rattle.std.proofs.Common.{◌≡◌, ◌+◌, ◌*◌, ◌≤◌, ℕ, Bool, List, length, None, Option, Some, Vec, Global, refl, sym, subst}
+use Rattle.std.proofs.Common.{◌≡◌, ◌∙◌, ◌+◌, ◌*◌, ◌≤◌, ℕ, Bool, List, length, None, Option, Some, refl, sym, subst}
 use Rattle.std.specs.Prelude.{IfSome}
 use Rattle.calculus.specs.Admitted.{IsAdmitted}
 use Rattle.calculus.specs.Meaning.{MarksOf}
@@ -8,6 +8,7 @@ use Rattle.systems.specs.System.{IsSystem, System}
 use Rattle.calculus.specs.declared.limits.TheConstants.{GREATEST_PRIORITY, MOST_NODES}
 use Rattle.calculus.specs.declared.priorities.Priorities.{Priorities}
 use Rattle.calculus.specs.Nodes.{Node, greatest_node_priority}
+use Rattle.calculus.specs.Normal.{normal_nodes}
 use Rattle.calculus.specs.Rules.{nodes_with}
 use Rattle.calculus.specs.NormalTree.{node_count}
 use Rattle.game.specs.declared.limits.TheConstants.{MOST_VERTICES}
@@ -19,6 +20,8 @@ use Rattle.workers.specs.declared.team.BoardKind.{BoardKind}
 use Rattle.requests.specs.Check.{AreMarks, ByGame, game_by_rule}
 use Rattle.requests.specs.Roots.{WinsRoot}
 use Rattle.requests.specs.Solver.{FitsBoard}
+use Rattle.verdicts.specs.declared.ranked.RankedFound.{RankedFound}
+use Rattle.verdicts.specs.Findings.{IsRankedFound}
 use Rattle.verdicts.proofs.Roots.{roots_mean}
 
 some_same : (a b : ℕ) → Some a ≡ Some b → a ≡ b
@@ -34,27 +37,34 @@ won l ns marks m = record {
   );
 }
 
-ranked : (rule : Priorities) (board : BoardKind) (l : System) (f : Formula) (marks : List Bool) → ChosenIsAdmissible → EvenWinsFormula
-    → IsSystem l → IsAdmitted f → ((g : Game) → FitsBoard (Some board) g) → node_count f ≤ MOST_NODES → greatest_node_priority (nodes_with rule f) ≤ GREATEST_PRIORITY
-    → 2 + l.states * length (nodes_with rule f) ≤ MOST_VERTICES
-    → MarksOf l.states marks (λ s. Wins (arena l (nodes_with rule f)) (place (length (nodes_with rule f)) s 0))
-    → AreMarks (ByGame rule (Some board)) l f marks
-ranked rule board l f marks chosen wins is admitted fits few low vertices m =
-    let w = won l (nodes_with rule f) marks m in
+-- What is known of the winners in the arena of these nodes, which are those of the rule.
+pub ranked_by : (rule : Priorities) (board : BoardKind) (l : System) (f : Formula) (ns : List Node) (marks : List Bool) → ChosenIsAdmissible
+    → EvenWinsFormula → IsSystem l → IsAdmitted f → ((g : Game) → FitsBoard (Some board) g) → node_count f ≤ MOST_NODES
+    → greatest_node_priority (nodes_with rule f) ≤ GREATEST_PRIORITY → ns ≡ nodes_with rule f → 2 + l.states * length ns ≤ MOST_VERTICES
+    → MarksOf l.states marks (λ s. Wins (arena l ns) (place (length ns) s 0)) → AreMarks (ByGame rule (Some board)) l f marks
+ranked_by rule board l f ns marks chosen wins is admitted fits few low same vertices m =
+    let w : MarksOf l.states marks (WinsRoot (game_by_rule rule l f)) =
+    subst (λ (xs : List Node). MarksOf l.states marks (WinsRoot (arena l xs))) same (won l ns marks m) in
     record {
-      within = (record { form = record { nodes = few; priorities = low }; vertices = vertices }, fits (game_by_rule rule l f));
+      within = (
+        record {
+          form = record { nodes = few; priorities = low };
+          vertices = subst (λ (xs : List Node). 2 + l.states * length xs ≤ MOST_VERTICES) same vertices;
+        },
+        fits (game_by_rule rule l f),
+      );
       exact = roots_mean l f (nodes_with rule f) marks wins is admitted (chosen rule f admitted) w;
       won = w;
     }
 
--- What is known of the winners in the arena of these nodes, which are those of the rule.
-pub ranked_by : (rule : Priorities) (board : BoardKind) (l : System) (f : Formula) (ns : List Node) (marks : Option (Vec Bool Global)) → ChosenIsAdmissible
-    → EvenWinsFormula → IsSystem l → IsAdmitted f → ((g : Game) → FitsBoard (Some board) g) → node_count f ≤ MOST_NODES → greatest_node_priority (nodes_with rule f) ≤ GREATEST_PRIORITY
-    → ns ≡ nodes_with rule f → IfSome marks (λ m. 2 + l.states * length ns ≤ MOST_VERTICES)
-    → IfSome marks (λ m. MarksOf l.states m.items (λ s. Wins (arena l ns) (place (length ns) s 0)))
-    → IfSome marks (λ m. AreMarks (ByGame rule (Some board)) l f m.items)
-ranked_by rule board l f ns None chosen wins is admitted fits few low same vertices m = tt
-ranked_by rule board l f ns (Some marks) chosen wins is admitted fits few low same vertices m =
-    ranked rule board l f marks.items chosen wins is admitted fits few low
-    (subst (λ xs. 2 + l.states * length xs ≤ MOST_VERTICES) same vertices)
-    (subst (λ xs. MarksOf l.states marks.items (λ s. Wins (arena l xs) (place (length xs) s 0))) same m)
+-- So it is of a ranking that is found.
+pub ranking_found : (rule : Priorities) (board : BoardKind) (l : System) (f : Formula) (ns : List Node) (x : Option RankedFound) → ChosenIsAdmissible
+    → EvenWinsFormula → IsSystem l → IsAdmitted f → ((g : Game) → FitsBoard (Some board) g) → node_count f ≤ MOST_NODES
+    → greatest_node_priority (nodes_with rule f) ≤ GREATEST_PRIORITY → ns ≡ nodes_with rule f → IfSome x (λ y. normal_nodes y.form ≡ ns)
+    → IfSome x (λ y. 2 + l.states * length ns ≤ MOST_VERTICES)
+    → IfSome x (λ y. MarksOf l.states y.marks.items (λ s. Wins (arena l ns) (place (length ns) s 0))) → IfSome x (IsRankedFound rule board l f)
+ranking_found rule board l f ns None chosen wins is admitted fits few low same form vertices m = tt
+ranking_found rule board l f ns (Some x) chosen wins is admitted fits few low same form vertices m = record {
+  form = form ∙ same;
+  marks = ranked_by rule board l f ns x.marks.items chosen wins is admitted fits few low same vertices m;
+}

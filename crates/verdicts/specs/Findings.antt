@@ -25,6 +25,7 @@ use Rattle.verdicts.specs.declared.findings.GameToSolve.{GameToSolve}
 use Rattle.evidence.specs.declared.pair.EvidencePair.{EvidencePair}
 use Rattle.verdicts.specs.declared.marks.MarkedGame.{MarkedGame}
 use Rattle.verdicts.specs.declared.proposing.LeastFound.{LeastFound}
+use Rattle.verdicts.specs.declared.ranked.RankedFound.{RankedFound}
 use Rattle.calculus.specs.declared.priorities.Priorities.{Priorities}
 use Rattle.rankings.specs.Least.{AreWinnersMoves}
 use Rattle.workers.specs.declared.team.BoardKind.{BoardKind}
@@ -51,6 +52,11 @@ pub record IsLeastFound (rule : Priorities) (board : BoardKind) (l : System) (f 
   pub form : normal_nodes x.form ≡ nodes_with rule f
   pub least : AreLeastOf l (nodes_with rule f) x.proposals
   pub moves : AreWinnersMoves x.proposals (arena l (nodes_with rule f)) x.moves.items
+
+-- The form is the formula's, and the marks are the states'.
+pub record IsRankedFound (rule : Priorities) (board : BoardKind) (l : System) (f : Formula) (x : RankedFound) : Type 0 where
+  pub form : normal_nodes x.form ≡ nodes_with rule f
+  pub marks : AreMarks (ByGame rule (Some board)) l f x.marks.items
 
 -- The game is that of the system and the formula, and the marks are the states'.
 pub record IsMarkedGame (rule : Priorities) (board : BoardKind) (l : System) (f : Formula) (x : MarkedGame) : Type 0 where

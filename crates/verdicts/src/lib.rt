@@ -7,5 +7,5 @@ pub mod lifting;
 pub mod marks;
 pub mod pairs;
 pub mod proposing;
-mod ranked;
+pub mod ranked;
 mod threads;

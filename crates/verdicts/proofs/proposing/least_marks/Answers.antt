@@ -1,4 +1,4 @@
-use Rattle.std.proofs.Common.{◌≡◌, ◌≢◌, ◌∙◌, List, Some, ◌+◌, ◌*◌, length, ap, refl, subst, sym}
+use Rattle.std.proofs.Common.{◌≢◌, ◌∙◌, List, length, ap, refl, subst}
 use Rattle.calculus.specs.Closed.{closed_formula}
 use Rattle.calculus.specs.Form.{IsForm}
 use Rattle.calculus.specs.Meaning.{MarksOf}
@@ -25,6 +25,6 @@ returns-clause-marks c =
     let marks = c.in_ok-root_marks_of.field-0 in
     let m = subst (λ n. MarksOf n marks.items (λ s. value_at (values_of Even c.args.least.now.proposals) (place c.count.result s 0) ≢ Top))
     c.states-states.ensures.count c.in_ok-root_marks_of.ensures in
-    ranked_by rule c.args.options.now.board l f ns (Some marks) c.chosen_is_admissible.ensures c.even_wins_where_meant.ensures.root
+    ranked_by rule c.args.options.now.board l f ns marks.items c.chosen_is_admissible.ensures c.even_wins_where_meant.ensures.root
     c.states-states.ensures.known c.args.texts.now.formula.admitted is.fits is.within.form.nodes is.within.form.priorities refl is.within.vertices
     (least_won l ns c.args.least.now.proposals c.count.result marks.items c.least_decides.ensures form is.within.vertices is.least count m)
