@@ -7,3 +7,4 @@ mod Reasoning
 mod Caused
 mod Leasts
 mod GameTexts
+mod Alike

@@ -1,5 +1,5 @@
 -- What is told of an answer.
-use Rattle.std.proofs.Common.{◌≡◌, ℕ, ◌<◌, Bool, false, List, [], ◌∷◌, Option, Some, Result, Ok, Err, inl, inr, refl, sym, subst}
+use Rattle.std.proofs.Common.{◌≡◌, ℕ, ◌<◌, Bool, false, List, [], ◌∷◌, Option, Result, Ok, Err, inl, inr, refl, sym, subst}
 use Rattle.text.specs.Taken.{Taken}
 use Rattle.text.proofs.Writing.{Stays-refl}
 use Rattle.std.specs.Prelude.{IsTrue, MatchResult, slice_index_or}
@@ -13,18 +13,15 @@ use Rattle.why.specs.declared.visit.Visit.{Visit}
 use Rattle.workers.specs.declared.team.BoardKind.{BoardKind}
 use Rattle.requests.specs.declared.error.MuError.{MuError}
 use Rattle.requests.specs.declared.error.MuError.TheVariants as error
-use Rattle.requests.specs.declared.request.ReportForm.TheVariants.{Nothing}
-use Rattle.requests.specs.declared.request.Wanted.{Wanted}
 use Rattle.requests.specs.declared.texts.Texts.{Texts}
-use Rattle.requests.specs.declared.request.WitnessForm.TheVariants.{System as AsSystem}
 use Rattle.requests.specs.Check.{AreSpelled, ByGame, RefusesCheck, Way}
 use Rattle.requests.specs.Strict.{HasRefusedBy, KnowsWords}
 use Rattle.requests.specs.Writers.{AreKept, Lent, WitnessText, lent_for}
 use Rattle.verdicts.specs.declared.findings.Findings.{Findings}
 use Rattle.engines.specs.declared.reasons.PlayVisits.{PlayVisits}
 use Rattle.engines.specs.Prepared.{IsUnshown}
-use Rattle.verdicts.specs.Findings.{AreFindings, formula_found, system_of, way_in}
-use Rattle.engines.specs.Reasons.{AreReasons, AreToldOf, HasNoReasons, TellsReasons, reasons}
+use Rattle.verdicts.specs.Findings.{AreFindings, formula_found, system_of}
+use Rattle.engines.specs.Reasons.{AreReasons, AreToldOf, IsApart, HasNoReasons, TellsReasons, reasons}
 use Rattle.engines.specs.StrictReasons.{HasNoReasonsBy, TellsReasonsBy}
 
 no_write : (fault : WriteFault) (place : ℕ) → ◌≡◌ {A = MuError} (error.Write fault) (error.NoLabel place) → ⊥
@@ -93,18 +90,21 @@ unshown_kept x limit first second old e spelled found (inr is) =
     )
 
 -- What is told is the answer and a play that shows it.
-why_told : (x : Findings) (limit : ℕ) (told : PlayVisits) → AreFindings x → AreToldOf x limit told
+why_told : (x : Findings) (limit : ℕ) (told : PlayVisits) → AreFindings x → IsApart x → AreToldOf x limit told
     → AreReasons x.solution.priorities limit (system_of x) (formula_found x) (slice_index_or x.marks.items (system_of x).initial false)
     (reasons (formula_found x) (slice_index_or x.marks.items (system_of x).initial false) (system_of x) (normal_nodes x.solution.form) told.most
     told.visits.items told.heads.items told.count)
-why_told x limit told found is = record {
-  visits = told.visits.items;
-  heads = told.heads.items;
-  count = told.count;
-  told = is.lines;
-  is = λ j. reasons (formula_found x) (slice_index_or x.marks.items (system_of x).initial false) (system_of x) (found.solution.form j) (is.most j)
-      told.visits.items told.heads.items told.count;
-}
+why_told x limit told found apart is = inr (
+  apart,
+  record {
+    visits = told.visits.items;
+    heads = told.heads.items;
+    count = told.count;
+    told = is.lines;
+    is = λ j. reasons (formula_found x) (slice_index_or x.marks.items (system_of x).initial false) (system_of x) (found.solution.form j) (is.most j)
+        told.visits.items told.heads.items told.count;
+  },
+)
 
 -- the same story of the same
 pub story_same : (t u : Texts) (nodes : List Node) (most : ℕ) (visits others : List Visit) (heads marks : List Bool) (count : ℕ)
@@ -114,13 +114,13 @@ story_same t u nodes most visits others heads marks count et ev eh = λ j. story
 
 -- All was written, or a beginning.
 pub reasoned : (x : Findings) (limit : ℕ) (told : PlayVisits) (first second : List ℕ) (old new : Taken) (wrote : Result Unit WriteFault)
-    (r : Result Bool MuError) → AreFindings x → (system_of x).initial < (system_of x).states
+    (r : Result Bool MuError) → AreFindings x → IsApart x → (system_of x).initial < (system_of x).states
     → AreSpelled first second (system_of x) (formula_found x) → AreToldOf x limit told
     → Wrote old new wrote (reasons (formula_found x) (slice_index_or x.marks.items (system_of x).initial false) (system_of x) (normal_nodes x.solution.form)
     told.most told.visits.items told.heads.items told.count)
     → MatchResult wrote (λ _. r ≡ Ok (slice_index_or x.marks.items (system_of x).initial false)) (λ fault. r ≡ Err (error.Write fault))
     → TellsReasons x.solution.priorities x.solution.board limit first second old new r
-reasoned x limit told first second old new (Ok v) r found inside spelled is wrote e =
+reasoned x limit told first second old new (Ok v) r found apart inside spelled is wrote e =
     subst (TellsReasons x.solution.priorities x.solution.board limit first second old new) (sym e) (record {
       l = system_of x;
       f = formula_found x;
@@ -128,10 +128,10 @@ reasoned x limit told first second old new (Ok v) r found inside spelled is wrot
       within = found.marks.within;
       answered = found.marks.exact.exact (system_of x).initial inside;
       text = _;
-      why = why_told x limit told found is;
+      why = why_told x limit told found apart is;
       written = wrote;
     })
-reasoned x limit told first second old new (Err fault) r found inside spelled is wrote e =
+reasoned x limit told first second old new (Err fault) r found apart inside spelled is wrote e =
     subst (TellsReasons x.solution.priorities x.solution.board limit first second old new) (sym e) (
       slice_index_or x.marks.items (system_of x).initial false,
       record {
@@ -141,7 +141,7 @@ reasoned x limit told first second old new (Err fault) r found inside spelled is
         within = found.marks.within;
         answered = found.marks.exact.exact (system_of x).initial inside;
         text = _;
-        why = why_told x limit told found is;
+        why = why_told x limit told found apart is;
         written = wrote;
       },
     )

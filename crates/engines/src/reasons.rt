@@ -13,9 +13,10 @@ ghost use Rattle.witness.specs.Witness.{root_of};
 ghost use Rattle.why.specs.Story.{has_branch as has_branch_of, story_text, verdict_text};
 ghost use Rattle.engines.specs.Prepared.{IsUnshown, IsWinning};
 ghost use Rattle.verdicts.specs.Findings.{AreFindings, formula_found, system_of};
-ghost use Rattle.engines.specs.Reasons.{AreToldOf, IsToldBy, TellsReasons, most_visits as most_visits_of, reasons};
+ghost use Rattle.engines.specs.Reasons.{AreToldOf, IsApart, IsToldBy, TellsReasons, most_visits as most_visits_of, reasons};
 ghost use Rattle.engines.specs.StrictReasons.{TellsWhyBy};
 
+use crate::everywhere::{alike_states, tell_answer};
 use crate::outputs::answer;
 use crate::prepared::{initial_mark, winning_evidence};
 use calculus::form::Normal;
@@ -36,6 +37,7 @@ use text::source::Source;
 use verdicts::findings::{Findings, find_in};
 use verdicts::lifting::SolvedGame;
 use verdicts::proposing::least_found;
+use verdicts::ranked::ranked_found;
 use why::setting::{has_branch, heads, modality_texts, told_within, verdict};
 use why::visit::Visit;
 use why::walk::telling;
@@ -85,8 +87,31 @@ pub fn tell_why<
     tell_read(rt, alloc, texts, request, out, watcher)
 }
 
-/// Tells why, of texts that were read.
+/// Tells why, of texts that were read. Where one line tells it by a ranking, no game is stored.
 fn tell_read<W: Sink, U: Watcher, H: Runtime>(
+    rt: &H,
+    alloc: Global,
+    texts: Texts,
+    request: &Why<'_>,
+    out: &mut W,
+    watcher: &U,
+) -> Result<bool, MuError>
+    ensures tells { (first second : List ℕ) → AreSpelled first second texts.system.system (closed_formula texts.formula)
+        → let r = request.now in TellsReasons r.options.priorities (Some r.options.board) r.limit first second (W.taken out.old)
+        (W.taken out.new) result }
+    ensures cause { IfErr result (HaveCauses false false) }
+{
+    let Texts { system, formula } = &texts;
+    if let Some(found) = ranked_found(rt, alloc, system, formula, &request.options, watcher)
+        && let Some(count) = alike_states(alloc, system, &found.form, &found.marks)?
+    {
+        return tell_answer(&texts, &found.marks, count, out);
+    }
+    tell_searched(rt, alloc, texts, request, out, watcher)
+}
+
+/// Tells why, by the game.
+fn tell_searched<W: Sink, U: Watcher, H: Runtime>(
     rt: &H,
     alloc: Global,
     texts: Texts,
@@ -101,6 +126,10 @@ fn tell_read<W: Sink, U: Watcher, H: Runtime>(
 {
     let least = least_found(alloc, &texts, &request.options, watcher);
     let found = find_in(rt, alloc, texts, least, &request.options, watcher)?;
+    let (texts, marks) = (&*found.texts, &found.marks);
+    if let Some(count) = alike_states(alloc, &texts.system, &found.solution.form, marks)? {
+        return tell_answer(texts, marks, count, out);
+    }
     watcher.sees(Stage::MakingEvidence {
         vertices: found.solution.game.vertices(),
     });
@@ -115,7 +144,9 @@ fn tell_found<W: Sink, U: Watcher>(
     out: &mut W,
     watcher: &U,
 ) -> Result<bool, MuError>
-    requires { AreFindings found.now }
+    requires found { AreFindings found.now }
+    requires apart { IsApart found.now }
+
     ensures tells { (first second : List ℕ) → AreSpelled first second (system_of found.now) (formula_found found.now)
         → TellsReasons found.now.solution.priorities found.now.solution.board limit first second (W.taken out.old) (W.taken out.new) result }
     ensures cause { IfErr result (HaveCauses false false) }
