@@ -6,3 +6,4 @@ mod Putting
 mod Reasoning
 mod Caused
 mod Leasts
+mod Alike

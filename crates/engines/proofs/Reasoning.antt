@@ -11,6 +11,7 @@ use Rattle.game.specs.Game.{Game}
 use Rattle.text.specs.declared.write_loop.WriteFault.{WriteFault}
 use Rattle.calculus.specs.declared.priorities.Priorities.{Priorities}
 use Rattle.calculus.specs.Nodes.{Node}
+use Rattle.calculus.specs.Rules.{nodes_with}
 use Rattle.calculus.specs.Normal.{normal_nodes}
 use Rattle.why.specs.Story.{story_text}
 use Rattle.why.specs.declared.visit.Visit.{Visit}
@@ -25,7 +26,8 @@ use Rattle.engines.specs.declared.reasons.PlayVisits.{PlayVisits}
 use Rattle.verdicts.proofs.Beyond.{beyond_of}
 use Rattle.engines.specs.Play.{HasNoPlay, IsPlayFound, formula_played, system_played}
 use Rattle.engines.specs.declared.play.PlayFound.{PlayFound}
-use Rattle.engines.specs.Reasons.{AreTold, HasGivenReasons, HasNoReasons, IsToldBy, TellsReasons, reasons}
+use Rattle.engines.specs.Everywhere.{HaveAnswer}
+use Rattle.engines.specs.Reasons.{AreTold, HasGivenReasons, HasNoReasons, IsApart, IsToldBy, TellsReasons, reasons}
 use Rattle.engines.specs.StrictReasons.{HasNoReasonsBy, TellsReasonsBy}
 
 no_write : (fault : WriteFault) (place : ℕ) → ◌≡◌ {A = MuError} (error.Write fault) (error.NoLabel place) → ⊥
@@ -102,12 +104,12 @@ story_same t u nodes most visits others heads marks count et ev eh = λ j. story
 
 -- What is told of a play is the answer and a play that shows it.
 pub reasoned : (rule : Priorities) (board : BoardKind) (limit : ℕ) (first second : List ℕ) (x : PlayFound) (told : PlayVisits) (answer : Bool)
-    (Writes : List ℕ → Type 0) → IsPlayFound rule board x → (system_played x).initial < (system_played x).states
+    (Writes : List ℕ → Type 0) → IsPlayFound rule board x → IsApart rule x → (system_played x).initial < (system_played x).states
     → answer ≡ slice_index_or x.marks.items (system_played x).initial false → AreSpelled first second (system_played x) (formula_played x)
     → IsToldBy (system_played x) (normal_nodes x.form) (arc_value x.game) x.evidence.evidence limit told
     → Writes (reasons (formula_played x) answer (system_played x) (normal_nodes x.form) told.most told.visits.items told.heads.items told.count)
     → HasGivenReasons rule (Some board) limit first second answer Writes
-reasoned rule board limit first second x told answer Writes found inside e spelled is wrote =
+reasoned rule board limit first second x told answer Writes found apart inside e spelled is wrote =
     let l = system_played x in
     let f = formula_played x in
     let marked = subst (λ a. IsTrue a ↔ Satisfies l f l.initial) (sym e) (found.marks.exact.exact l.initial inside) in
@@ -121,12 +123,15 @@ reasoned rule board limit first second x told answer Writes found inside e spell
       within = found.marks.within;
       answered = marked;
       text = _;
-      why = record {
-        visits = told.visits.items;
-        heads = told.heads.items;
-        count = told.count;
-        told = subst (λ (ns : List Node). AreTold l ns limit told.visits.items told.heads.items told.count) found.form lines;
-        is = λ j. reasons f answer l (found.form j) (is.most j) told.visits.items told.heads.items told.count;
-      };
+      why = inr (
+        subst (λ a. HaveAnswer l (nodes_with rule f) f a → ⊥) (sym e) apart,
+        record {
+          visits = told.visits.items;
+          heads = told.heads.items;
+          count = told.count;
+          told = subst (λ (ns : List Node). AreTold l ns limit told.visits.items told.heads.items told.count) found.form lines;
+          is = λ j. reasons f answer l (found.form j) (is.most j) told.visits.items told.heads.items told.count;
+        },
+      );
       written = wrote;
     }

@@ -1,4 +1,5 @@
 pub mod Alone
+pub mod Everywhere
 pub mod Play
 pub mod Prepared
 pub mod Reasons

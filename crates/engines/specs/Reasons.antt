@@ -1,5 +1,5 @@
 -- What is told of why the initial state satisfies a formula, or doesn't.
-use Rattle.std.specs.Prelude.{◌≡◌, ℕ, ◌+◌, ◌*◌, ◌↔◌, ◌==◌, Bool, List, [], ◌∷◌, ◌++◌, Option, Result, MatchResult, IsTrue, map, if◌then◌else◌}
+use Rattle.std.specs.Prelude.{◌≡◌, ℕ, ◌+◌, ◌*◌, ◌↔◌, ◌⊎◌, ◌==◌, Bool, List, [], ◌∷◌, ◌++◌, Option, Result, MatchResult, IsTrue, map, slice_index_or, false, if◌then◌else◌}
 use Rattle.text.specs.Taken.{Taken, Adds}
 use Rattle.text.specs.Pieces.{line_end}
 use Rattle.text.specs.Wrote.{WroteFront}
@@ -24,6 +24,9 @@ use Rattle.requests.specs.Check.{AreSpelled, ByGame, RefusesCheck, CanBeFound}
 use Rattle.requests.specs.Report.{formula_line}
 use Rattle.requests.specs.Writers.{WitnessText, lent_for}
 use Rattle.engines.specs.declared.reasons.PlayVisits.{PlayVisits}
+use Rattle.engines.specs.declared.play.PlayFound.{PlayFound}
+use Rattle.engines.specs.Everywhere.{HaveAnswer, TellsAll}
+use Rattle.engines.specs.Play.{formula_played, system_played}
 
 -- how many visits are made at most: many enough for the lines that are told, of which there are at most so many, where that isn't 0
 abbrev pub most_visits : (limit : ℕ) → ℕ
@@ -43,12 +46,18 @@ pub record AreTold (l : System) (nodes : List Node) (limit : ℕ) (visits : List
   pub cut : IsCut nodes visits heads limit count
 
 -- The text tells the answer and a play that shows it, in at most so many lines, where that isn't 0.
-pub record AreReasons (rule : Priorities) (limit : ℕ) (l : System) (f : Formula) (answer : Bool) (text : List ℕ) : Type 0 where
+pub record TellsPlay (rule : Priorities) (limit : ℕ) (l : System) (f : Formula) (answer : Bool) (text : List ℕ) : Type 0 where
   pub visits : List Visit
   pub heads : List Bool
   pub count : ℕ
   pub told : AreTold l (nodes_with rule f) limit visits heads count
   pub is : text ≡ reasons f answer l (nodes_with rule f) (most_visits limit) visits heads count
+
+-- In one line where the formula asks of all states that can be reached, or whether there is one, and all of them have the answer; else with a play.
+abbrev pub AreReasons : Priorities → (limit : ℕ) → System → Formula → (answer : Bool) → (text : List ℕ) → Type 0
+AreReasons rule limit l f answer text =
+    (HaveAnswer l (nodes_with rule f) f answer × TellsAll l f answer text)
+    ⊎ ((HaveAnswer l (nodes_with rule f) f answer → ⊥) × TellsPlay rule limit l f answer text)
 
 -- Both texts are spelled, the answer is that of the initial state in the formula's meaning, and what was written is this of a text that tells why.
 pub record HasGivenReasons (rule : Priorities) (board : Option BoardKind) (limit : ℕ) (first second : List ℕ) (answer : Bool)
@@ -80,3 +89,9 @@ pub record IsToldBy (l : System) (ns : List Node) (g : Game) (e : Evidence) (lim
   pub back : AreHeads told.visits.items told.heads.items
   pub cut : IsCut ns told.visits.items told.heads.items limit told.count
   pub texts : map (λ text. text.items) told.modalities.items ≡ map modality_of ns
+
+-- The answer isn't told in one line.
+abbrev pub IsApart : Priorities → PlayFound → Type 0
+IsApart rule x =
+    HaveAnswer (system_played x) (nodes_with rule (formula_played x)) (formula_played x)
+    (slice_index_or x.marks.items (system_played x).initial false) → ⊥

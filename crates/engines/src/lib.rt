@@ -3,6 +3,7 @@
 #![tactic(auto)]
 
 pub mod engine;
+mod everywhere;
 mod game_text;
 mod least;
 pub mod named;

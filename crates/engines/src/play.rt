@@ -58,8 +58,29 @@ pub(crate) fn find_play<U: Watcher, H: Runtime>(
     ensures texts { IfOk result (λ found. found.texts.value ≡ texts) }
     ensures refusal { IfErr result (HasNoPlay options.now.priorities options.now.board texts.system.system (closed_formula texts.formula)) }
 {
+    let Texts { system, formula } = &texts;
+    let ranked = ranked_found(rt, alloc, system, formula, options, watcher);
+    play_by(rt, alloc, texts, ranked, options, watcher)
+}
+
+/// Finds the play by a ranking, where there is one, and else by solving the game.
+///
+/// # Errors
+/// Those of `find_play`.
+pub(crate) fn play_by<U: Watcher, H: Runtime>(
+    rt: &H,
+    alloc: Global,
+    texts: Texts,
+    ranked: Option<RankedFound>,
+    options: &Options,
+    watcher: &U,
+) -> Result<PlayFound, MuError>
+    requires { IfSome ranked (IsRankedFound options.now.priorities options.now.board texts.system.system (closed_formula texts.formula)) }
+    ensures play { IfOk result (IsPlayFound options.now.priorities options.now.board) }
+    ensures texts { IfOk result (λ found. found.texts.value ≡ texts) }
+    ensures refusal { IfErr result (HasNoPlay options.now.priorities options.now.board texts.system.system (closed_formula texts.formula)) }
+{
     let texts = boxed(alloc, texts)?;
-    let ranked = ranked_found(rt, alloc, &texts.system, &texts.formula, options, watcher);
     match ranked {
         Some(ranked) => play_by_ranking(rt, alloc, texts, ranked, options, watcher),
         None => play_by_game(rt, alloc, texts, options, watcher),

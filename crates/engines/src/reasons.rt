@@ -1,6 +1,6 @@
 // Why the initial state satisfies a formula, or doesn't: the verdict and a play that shows it, as a person reads it.
 
-ghost use Rattle.std.specs.Prelude.{◌≡◌, ◌<◌, ◌≤◌, ◌++◌, ℕ, List, Some, IfOk, IfErr, IsTrue, false, length, map};
+ghost use Rattle.std.specs.Prelude.{◌≡◌, ◌<◌, ◌≤◌, ◌++◌, ℕ, List, Some, IfOk, IfErr, IfSome, IsTrue, false, length, map};
 ghost use Rattle.std.specs.Arc.{arc_value};
 ghost use Rattle.text.specs.Pieces.{line_end};
 ghost use Rattle.calculus.specs.Closed.{closed_formula};
@@ -11,12 +11,14 @@ ghost use Rattle.calculus.specs.Normal.{normal_nodes};
 ghost use Rattle.game.specs.Arena.{arena};
 ghost use Rattle.evidence.specs.Evidence.{IsGood, has as has_entry};
 ghost use Rattle.witness.specs.Witness.{root_of};
+ghost use Rattle.verdicts.specs.Findings.{IsRankedFound};
 ghost use Rattle.why.specs.Story.{has_branch as has_branch_of, modality_of, story_text, verdict_text};
 ghost use Rattle.engines.specs.Play.{IsPlay, IsPlayFound, formula_played, system_played};
-ghost use Rattle.engines.specs.Reasons.{IsToldBy, TellsReasons, most_visits as most_visits_of, reasons};
+ghost use Rattle.engines.specs.Reasons.{IsApart, IsToldBy, TellsReasons, most_visits as most_visits_of, reasons};
 ghost use Rattle.engines.specs.StrictReasons.{TellsWhyBy};
 
-use crate::play::{PlayFound, find_play, initial_answer};
+use crate::everywhere::{alike_states, tell_answer};
+use crate::play::{PlayFound, initial_answer, play_by};
 use calculus::form::Normal;
 use calculus::limits::MOST_NODES;
 use evidence::evidence::Evidence;
@@ -32,6 +34,7 @@ use std::alloc::Global;
 use std::hash::BuildHasher;
 use text::sink::Sink;
 use text::source::Source;
+use verdicts::ranked::{RankedFound, ranked_found};
 use why::setting::{has_branch, heads, modality_texts, told_within, verdict};
 use why::visit::Visit;
 use why::walk::telling;
@@ -81,7 +84,7 @@ pub fn tell_why<
     tell_read(rt, alloc, texts, request, out, watcher)
 }
 
-/// Tells why, of texts that were read.
+/// Tells why, of texts that were read. Where one line tells it by a ranking, no game is stored.
 fn tell_read<W: Sink, U: Watcher, H: Runtime>(
     rt: &H,
     alloc: Global,
@@ -95,7 +98,37 @@ fn tell_read<W: Sink, U: Watcher, H: Runtime>(
         (W.taken out.new) result }
     ensures cause { IfErr result (HaveCauses false false) }
 {
-    let found = find_play(rt, alloc, texts, &request.options, watcher)?;
+    let Texts { system, formula } = &texts;
+    let ranked = ranked_found(rt, alloc, system, formula, &request.options, watcher);
+    if let Some(found) = &ranked
+        && let Some(count) = alike_states(alloc, system, &found.form, &found.marks)?
+    {
+        return tell_answer(&texts, &found.marks, count, out);
+    }
+    tell_by_play(rt, alloc, texts, ranked, request, out, watcher)
+}
+
+/// Tells why, by the play, or in one line where that is enough by the marks that were found with it.
+fn tell_by_play<W: Sink, U: Watcher, H: Runtime>(
+    rt: &H,
+    alloc: Global,
+    texts: Texts,
+    ranked: Option<RankedFound>,
+    request: &Why<'_>,
+    out: &mut W,
+    watcher: &U,
+) -> Result<bool, MuError>
+    requires { IfSome ranked (IsRankedFound request.now.options.priorities request.now.options.board texts.system.system (closed_formula texts.formula)) }
+    ensures tells { (first second : List ℕ) → AreSpelled first second texts.system.system (closed_formula texts.formula)
+        → let r = request.now in TellsReasons r.options.priorities (Some r.options.board) r.limit first second (W.taken out.old)
+        (W.taken out.new) result }
+    ensures cause { IfErr result (HaveCauses false false) }
+{
+    let found = play_by(rt, alloc, texts, ranked, &request.options, watcher)?;
+    let (texts, marks) = (&*found.texts, &found.marks);
+    if let Some(count) = alike_states(alloc, &texts.system, &found.form, marks)? {
+        return tell_answer(texts, marks, count, out);
+    }
     tell_found(alloc, &found, request, out, watcher)
 }
 
@@ -107,7 +140,8 @@ fn tell_found<W: Sink, U: Watcher>(
     out: &mut W,
     watcher: &U,
 ) -> Result<bool, MuError>
-    requires { IsPlayFound request.now.options.priorities request.now.options.board found.now }
+    requires found { IsPlayFound request.now.options.priorities request.now.options.board found.now }
+    requires apart { IsApart request.now.options.priorities found.now }
     ensures tells { (first second : List ℕ) → AreSpelled first second (system_played found.now) (formula_played found.now)
         → let r = request.now in TellsReasons r.options.priorities (Some r.options.board) r.limit first second (W.taken out.old)
         (W.taken out.new) result }

@@ -1,5 +1,5 @@
 -- The arrows that a part keeps.
-use Rattle.std.proofs.Common.{◌≡◌, ℕ, Bool, ◌&&◌, List, [], ◌∷◌, length, filter, refl, sym, ap, subst, ◌∙◌, inl, inr, Contains}
+use Rattle.std.proofs.Common.{◌≡◌, ℕ, Bool, ◌&&◌, List, [], ◌∷◌, length, filter, refl, sym, ap, subst, ◌∙◌, inl, inr}
 use Rattle.std.specs.Prelude.{◌==◌}
 use Rattle.std.specs.List.{AllByRecursion}
 use Rattle.std.specs.List.Sorted.{IsStrictlySortedBy}
@@ -10,21 +10,10 @@ use Rattle.lts.proofs.Storing.{set_is, strict_set}
 use Rattle.calculus.specs.Holds.{holds}
 use Rattle.calculus.specs.NormalTree.{Shape, ConstantNode, JunctionNode, ModalityNode, FixpointNode, VariableNode}
 use Rattle.game.specs.Arena.{place}
-use Rattle.measures.proofs.Lists.{contains_cases, contains_first, contains_later, contains_none}
 use Rattle.laws.proofs.Flags.{both, cases}
-use Rattle.laws.proofs.Lists.{any_gives, gives_any}
+use Rattle.laws.proofs.Lists.{any_gives, filter_gives, gives_any}
 use Rattle.evidence.specs.Witness.{HasArrows, KeepsStep}
 use Rattle.evidence.specs.Laws.{ArrowsKeepSteps, PartsAreSystems}
-
-filter_has : (p : Arrow → Bool) (xs : List Arrow) (x : Arrow) → Contains (filter p xs) x → Contains xs x
-filter_has p [] x h = absurd (contains_none x h)
-filter_has p (y ∷ xs) x h = elim (cases (p y)) [
-  | inl e ↦ elim (contains_cases y x (filter p xs) (rw e at h)) [
-    | inl q ↦ subst (λ z. Contains (y ∷ xs) z) q (contains_first y xs)
-    | inr k ↦ contains_later y x xs (filter_has p xs x k)
-  ]
-  | inr e ↦ contains_later y x xs (filter_has p xs x (rw e at h))
-]
 
 filter_all : (P : Arrow → Type 0) (p : Arrow → Bool) (xs : List Arrow) → AllByRecursion P xs → AllByRecursion P (filter p xs)
 filter_all P p [] h = tt
@@ -40,7 +29,7 @@ parts_are_systems l p is = (
     set = set_is (filter p l.arrows) (filter p l.arrows) (IsStrictlySortedBy-filter arrow_cmp p l.arrows
         (subst (IsStrictlySortedBy arrow_cmp) (sym is.set) (strict_set l.arrows))) (λ z h. h) (λ z h. h);
   },
-  record { states = refl; initial = refl; arrows = λ a c. filter_has p l.arrows a c },
+  record { states = refl; initial = refl; arrows = λ a c. (filter_gives p l.arrows a c).0 },
 )
 
 keeps_step : (l part : System) (n s : ℕ) (sh : Shape) (u : ℕ) → HasArrows l part n s sh u → KeepsStep l part n s sh u

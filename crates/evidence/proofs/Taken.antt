@@ -1,6 +1,6 @@
 -- The arrows that the play takes are enough.
-use Rattle.std.proofs.Common.{◌≡◌, ◌≢◌, ℕ, ◌<◌, Bool, true, false, not, ◌&&◌, ◌||◌, List, [], ◌∷◌, length, filter, refl, sym, ap, subst, ◌∙◌, inl, inr, arith}
-use Rattle.std.proofs.Common.{IsTrue, Contains, Some, None, Option}
+use Rattle.std.proofs.Common.{◌≡◌, ◌≢◌, ℕ, ◌<◌, Bool, true, false, not, ◌&&◌, ◌||◌, List, length, refl, sym, ap, ◌∙◌, inl, inr, arith}
+use Rattle.std.proofs.Common.{IsTrue, Some, None, Option}
 use Rattle.std.specs.Prelude.{slice_get}
 use Rattle.std.specs.List.{list_any, range_with_len}
 use Rattle.std.proofs.lemmas.Option.{slice_get_within}
@@ -12,9 +12,8 @@ use Rattle.game.specs.declared.player.Player.{Player}
 use Rattle.game.specs.declared.player.Player.TheVariants.{Even, Odd}
 use Rattle.game.specs.Arena.{arena, owner_of, place, vertex_of}
 use Rattle.game.specs.Game.{Vertex}
-use Rattle.measures.proofs.Lists.{contains_cases, contains_first, contains_later, contains_none}
-use Rattle.laws.proofs.Flags.{and_true, cases, or_left, or_right, same_true}
-use Rattle.laws.proofs.Lists.{gives_any, gives_range}
+use Rattle.laws.proofs.Flags.{and_true, or_left, or_right, same_true}
+use Rattle.laws.proofs.Lists.{gives_any, gives_filter, gives_range}
 use Rattle.laws.proofs.Vertices.{vertex_is}
 use Rattle.evidence.specs.Evidence.{Entry, Evidence, GoesTo, entry_at}
 use Rattle.evidence.specs.Witness.{Goes, HasArrows, HasAllArrows, is_move, is_one_player, is_taken, is_taken_at, moves_to, witness}
@@ -22,13 +21,6 @@ use Rattle.evidence.specs.Laws.{WitnessShows}
 use Rattle.evidence.proofs.Cutting.{reached_closed}
 use Rattle.evidence.proofs.Kept.{arrows_keep_steps, parts_are_systems}
 use Rattle.evidence.proofs.Parts.{witness_means}
-
-has_filter : (p : Arrow → Bool) (xs : List Arrow) (x : Arrow) → Contains xs x → p x ≡ true → Contains (filter p xs) x
-has_filter p [] x h t = absurd (contains_none x h)
-has_filter p (y ∷ xs) x h t = elim (contains_cases y x xs h) [
-  | inl e ↦ (let q : p y ≡ true = ap p e ∙ t in rw q (subst (λ z. Contains (y ∷ filter p xs) z) e (contains_first y (filter p xs))))
-  | inr c ↦ (let w = has_filter p xs x c t in elim (cases (p y)) [ inl q ↦ rw q (contains_later y x (filter p xs) w) | inr q ↦ rw q w ])
-]
 
 other_player : (p q : Player) → p ≢ q → is_one_player p q ≡ false
 other_player Even Even n = absurd (n refl)
@@ -59,7 +51,7 @@ module _ (l : System) (nodes : List Node) (e : Evidence) (set : ℕ → Bool) wh
       → HasArrows l (witness l nodes e set) n s sh u
   at_node s k node u h at i go (ConstantNode flag) is = tt
   at_node s k node u h at i go (JunctionNode flag a b) is = tt
-  at_node s k node u h at i go (ModalityNode flag a child) is = λ arrow c source leads label. has_filter taken l.arrows arrow c (
+  at_node s k node u h at i go (ModalityNode flag a child) is = λ arrow c source leads label. gives_filter taken l.arrows arrow c (
       gives_any (λ j. is_taken_at n e set arrow j (slice_get nodes j)) (range_with_len 0 n) k
       (gives_range 0 n k (omega arith) (let b = slice_get_within nodes k node at in omega arith))
       (ap (is_taken_at n e set arrow k) at ∙ (ap (is_taken n e set arrow k) is ∙ passes arrow source leads label)))

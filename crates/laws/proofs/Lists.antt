@@ -56,7 +56,7 @@ gives_all p [] h = refl
 gives_all p (x ∷ xs) h = and_true (p x) (list_all p xs) (h x (contains_first x xs)) (gives_all p xs (λ y k. h y (contains_later x y xs k)))
 
 -- what a filtered list has
-pub filter_gives : (p : ℕ → Bool) (xs : List ℕ) (x : ℕ) → Contains (filter p xs) x → Contains xs x × (p x ≡ true)
+pub filter_gives : {X : Type 0} (p : X → Bool) (xs : List X) (x : X) → Contains (filter p xs) x → Contains xs x × (p x ≡ true)
 filter_gives p [] x h = absurd (contains_none x h)
 filter_gives p (y ∷ xs) x h = elim (cases (p y)) [
   | inl e ↦ elim (contains_cases y x (filter p xs) (rw e at h)) [
@@ -67,7 +67,7 @@ filter_gives p (y ∷ xs) x h = elim (cases (p y)) [
 ]
 
 -- it has what passes
-pub gives_filter : (p : ℕ → Bool) (xs : List ℕ) (x : ℕ) → Contains xs x → p x ≡ true → Contains (filter p xs) x
+pub gives_filter : {X : Type 0} (p : X → Bool) (xs : List X) (x : X) → Contains xs x → p x ≡ true → Contains (filter p xs) x
 gives_filter p [] x h t = absurd (contains_none x h)
 gives_filter p (y ∷ xs) x (zero, h, e) t = let q : p y ≡ true = ap p e ∙ t in rw q (0, omega arith, e)
 gives_filter p (y ∷ xs) x (suc k, h, e) t =

@@ -1,6 +1,6 @@
 -- The targets of a modality, by the transitions of a state and the set of its labels.
-use Rattle.std.proofs.Common.{◌≡◌, ℕ, zero, suc, ◌<◌, Bool, true, List, [], ◌∷◌, map, refl, sym, ap, subst, ◌∙◌, inl, inr, arith}
-use Rattle.std.specs.Prelude.{Contains, filter, ◌==◌}
+use Rattle.std.proofs.Common.{◌≡◌, ℕ, ◌<◌, Bool, true, List, map, refl, sym, ap, subst, ◌∙◌}
+use Rattle.std.specs.Prelude.{Contains, ◌==◌}
 use Rattle.std.specs.List.{AllByRecursion}
 use Rattle.std.proofs.lemmas.Bool.{eqb-true}
 use Rattle.std.proofs.lemmas.List.Elements.{All-from_recursion}
@@ -11,28 +11,9 @@ use Rattle.calculus.specs.Tree.{Action}
 use Rattle.calculus.specs.Holds.{holds}
 use Rattle.game.specs.Arena.{targets}
 use Rattle.calculus.specs.Taken.{IsSetOf, is_in}
-use Rattle.measures.proofs.Lists.{contains_cases, contains_first, contains_later, contains_none}
-use Rattle.laws.proofs.Flags.{cases, same_true}
-use Rattle.laws.proofs.Lists.{in_map, of_map}
+use Rattle.laws.proofs.Flags.{same_true}
+use Rattle.laws.proofs.Lists.{filter_gives, gives_filter, in_map, of_map}
 use Rattle.laws.proofs.Targets.{leads_target, target_leads}
-
--- what a filtered list has, and what it keeps
-kept : {X : Type 0} (p : X → Bool) (xs : List X) (x : X) → Contains (filter p xs) x → Contains xs x × (p x ≡ true)
-kept p [] x h = absurd (contains_none x h)
-kept p (y ∷ xs) x h = elim (cases (p y)) [
-  | inl e ↦ elim (contains_cases y x (filter p xs) (rw e at h)) [
-    | inl q ↦ (subst (λ z. Contains (y ∷ xs) z) q (contains_first y xs), subst (λ z. p z ≡ true) q e)
-    | inr k ↦ (let w = kept p xs x k in (contains_later y x xs w.0, w.1))
-  ]
-  | inr e ↦ (let w = kept p xs x (rw e at h) in (contains_later y x xs w.0, w.1))
-]
-
-keeps : {X : Type 0} (p : X → Bool) (xs : List X) (x : X) → Contains xs x → p x ≡ true → Contains (filter p xs) x
-keeps p [] x h t = absurd (contains_none x h)
-keeps p (y ∷ xs) x (zero, h, e) t = let q : p y ≡ true = ap p e ∙ t in rw q (0, omega arith, e)
-keeps p (y ∷ xs) x (suc k, h, e) t =
-    let w = keeps p xs x (k, omega arith, e) t in
-    elim (cases (p y)) [ inl q ↦ rw q (contains_later y x (filter p xs) w) | inr q ↦ rw q w ]
 
 module _ (l : Numbered) (ok : IsSystem l.system) (a : Action) (s : ℕ) (below : s < l.system.states) (set : List Bool) (row : List Transition)
     (arrows : map (arrow_of l.labels) row ≡ arrows_from l.system s)
@@ -51,7 +32,7 @@ module _ (l : Numbered) (ok : IsSystem l.system) (a : Action) (s : ℕ) (below :
   step_of t h =
       let w = target_leads l.system a s t h in
       let arrow : Arrow = record { source = s; label = w.0; target = t } in
-      let in_row : Contains (arrows_from l.system s) arrow = keeps (λ (x : Arrow). x.source == s) l.system.arrows arrow w.1 (same_true s s refl) in
+      let in_row : Contains (arrows_from l.system s) arrow = gives_filter (λ (x : Arrow). x.source == s) l.system.arrows arrow w.1 (same_true s s refl) in
       let u = of_map (arrow_of l.labels) row arrow (subst (λ xs. Contains xs arrow) (sym arrows) in_row) in
       let same : label_at l.labels u.0.label ≡ w.0 = ap (λ (x : Arrow). x.label) u.2 in
       (u.0, u.1, says u.0 u.1 ∙ (ap (holds a) same ∙ w.2), ap (λ (x : Arrow). x.target) u.2)
@@ -59,7 +40,7 @@ module _ (l : Numbered) (ok : IsSystem l.system) (a : Action) (s : ℕ) (below :
   -- and each such transition leads to a target
   pub target_of : (u : Transition) → Contains row u → is_in set u ≡ true → Contains (targets l.system a s) u.target
   target_of u h e =
-      let in_arrows = kept (λ (x : Arrow). x.source == s) l.system.arrows (arrow_of l.labels u)
+      let in_arrows = filter_gives (λ (x : Arrow). x.source == s) l.system.arrows (arrow_of l.labels u)
       (subst (λ xs. Contains xs (arrow_of l.labels u)) arrows (in_map (arrow_of l.labels) row u h)) in
       let from : u.source ≡ s = eqb-true u.source s in_arrows.1 in
       let arrow : Contains l.system.arrows (record { source = s; label = label_at l.labels u.label; target = u.target }) =

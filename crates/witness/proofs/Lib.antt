@@ -4,3 +4,4 @@ pub mod Keeping
 pub mod Means
 pub mod Drawn
 pub mod OneWay
+pub mod Reaching

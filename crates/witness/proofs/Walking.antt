@@ -1,5 +1,5 @@
 -- A walk goes on until nothing waits.
-use Rattle.std.proofs.Common.{◌≡◌, ◌≢◌, ℕ, zero, suc, ◌<◌, ◌⊎◌, Bool, true, false, List, [], ◌∷◌, ◌++◌, length, refl, sym, ap, subst, ◌∙◌, inl, inr, arith}
+use Rattle.std.proofs.Common.{◌≡◌, ◌≢◌, ℕ, zero, suc, ◌<◌, ◌⊎◌, ◌↔◌, Bool, true, false, List, [], ◌∷◌, ◌++◌, length, refl, sym, ap, subst, ◌∙◌, inl, inr, arith}
 use Rattle.std.proofs.Common.{IsTrue, Contains, Option, Some, None, length-append, replicate}
 use Rattle.std.specs.Prelude.{MatchOption, option_map, slice_get, slice_set}
 use Rattle.std.proofs.Math.ListN.{length-set}
@@ -13,9 +13,8 @@ use Rattle.measures.proofs.Lists.{contains_first, contains_none}
 use Rattle.measures.proofs.NotBoth.{path_on}
 use Rattle.laws.proofs.Lists.{only_in}
 use Rattle.evidence.specs.Evidence.{Entry, Evidence, IsGood, entry_at}
-use Rattle.evidence.specs.Witness.{Goes, AreReached}
 use Rattle.evidence.specs.declared.verdict.Fault.TheVariants.{Move}
-use Rattle.witness.specs.Walk.{AreGoals, IsMarkedWalk, Visits, is_marked}
+use Rattle.witness.specs.Walk.{AreGoals, AreTargets, IsMarkedWalk, Visits, is_marked}
 use Rattle.witness.proofs.Setting.{no_mark, one_fewer, set_adds, set_keeps, set_there}
 
 -- ------------------------------------------------------------------ visits
@@ -146,9 +145,9 @@ no_more (Some x) P Q h none = absurd (none x refl)
 
 -- ------------------------------------------------------------------ the walk
 
-module _ (g : Game) (e : Evidence) (root : ℕ) where
-  pub walk_begins : (n : ℕ) (marks : List Bool) (waiting : List ℕ) → n ≡ length g.vertices → Visits (replicate n false) [] (root ∷ []) marks waiting
-      → IsMarkedWalk g e root marks waiting
+module _ (size : ℕ) (R : ℕ → ℕ → Type 0) (root : ℕ) where
+  pub walk_begins : (n : ℕ) (marks : List Bool) (waiting : List ℕ) → n ≡ size → Visits (replicate n false) [] (root ∷ []) marks waiting
+      → IsMarkedWalk size R root marks waiting
   walk_begins n marks waiting long v = record {
     long = v.long ∙ (length-replicate n false ∙ long);
     begins = v.all root (contains_first root []);
@@ -158,22 +157,22 @@ module _ (g : Game) (e : Evidence) (root : ℕ) where
   }
 
   -- one vertex waits no more
-  pub walk_on : (u : ℕ) (marks new : List Bool) (before after now targets : List ℕ) → before ≡ after ++ u ∷ [] → IsMarkedWalk g e root marks before
-      → AreGoals g e u targets → Visits marks after targets new now
-      → IsMarkedWalk g e root new now
+  pub walk_on : (u : ℕ) (marks new : List Bool) (before after now targets : List ℕ) → before ≡ after ++ u ∷ [] → IsMarkedWalk size R root marks before
+      → AreTargets R u targets → Visits marks after targets new now
+      → IsMarkedWalk size R root new now
   walk_on u marks new before after now targets is w goals v = record {
     long = v.long ∙ w.long;
     begins = v.kept root w.begins;
     reached = λ t m. elim (v.only t m) [
       | inl old ↦ w.reached t old
-      | inr c ↦ (let p = w.reached u (w.known u (walk_rest before after u is)) in (_, path_on (Goes g e) root p.0 u t p.1 ((goals t).1 c.0)))
+      | inr c ↦ (let p = w.reached u (w.known u (walk_rest before after u is)) in (_, path_on R root p.0 u t p.1 ((goals t).1 c.0)))
     ];
     follows = λ s t m go. elim (v.only s m) [
       | inl old ↦ elim (w.follows s t old go) [
         | inl k ↦ inl (v.kept t k)
         | inr c ↦ elim (Contains-push_cases after u s (subst (λ xs. Contains xs s) is c)) [
           | inl k ↦ inr (v.waits s k)
-          | inr q ↦ inl (v.all t ((goals t).0 (subst (λ z. Goes g e z t) (sym q) go)))
+          | inr q ↦ inl (v.all t ((goals t).0 (subst (λ z. R z t) (sym q) go)))
         ]
       ]
       | inr c ↦ inr c.1
@@ -185,10 +184,11 @@ module _ (g : Game) (e : Evidence) (root : ℕ) where
   }
 
   -- nothing waits
-  pub walk_ends : (marks : List Bool) (waiting : List ℕ) → length waiting ≡ 0 → IsMarkedWalk g e root marks waiting → AreReached g e root (is_marked marks)
-  walk_ends marks waiting none w = λ t. ((λ m. w.reached t m), λ p. along root p.0 t w.begins p.1)
+  pub walk_ends : (marks : List Bool) (waiting : List ℕ) → length waiting ≡ 0 → IsMarkedWalk size R root marks waiting
+      → (t : ℕ) → IsTrue (is_marked marks t) ↔ ((others : List ℕ) × IsPath R root others t)
+  walk_ends marks waiting none w t = ((λ m. w.reached t m), λ p. along root p.0 t w.begins p.1)
     where
-      along : (s : ℕ) (others : List ℕ) (t : ℕ) → IsTrue (is_marked marks s) → IsPath (Goes g e) s others t → IsTrue (is_marked marks t)
+      along : (s : ℕ) (others : List ℕ) (t : ℕ) → IsTrue (is_marked marks s) → IsPath R s others t → IsTrue (is_marked marks t)
       along s [] t h p = subst (λ z. IsTrue (is_marked marks z)) p h
       along s (m ∷ others) t h p = elim (w.follows s m h p.0) [
         | inl k ↦ along m others t k p.1

@@ -1,6 +1,9 @@
--- A walk over what the play reaches.
+-- A walk over what is reached: by the play vertices, by steps states.
 use Rattle.std.specs.Prelude.{◌≡◌, ℕ, suc, ◌+◌, ◌⊎◌, ◌↔◌, Bool, false, List, [], ◌∷◌, length, Contains, IsTrue, slice_index_or, if◌then◌else◌}
 use Rattle.systems.specs.Path.{IsPath}
+use Rattle.systems.specs.System.{System}
+use Rattle.calculus.specs.Meaning.{Leads}
+use Rattle.calculus.specs.Tree.{Anything, Star, Step}
 use Rattle.game.specs.Game.{Game}
 use Rattle.evidence.specs.Evidence.{Evidence}
 use Rattle.evidence.specs.Witness.{Goes}
@@ -28,14 +31,27 @@ pub record Visits (marks : List Bool) (waiting targets : List ℕ) (new_marks : 
   pub from : (u : ℕ) → Contains new_waiting u → Contains waiting u ⊎ Contains targets u
   pub rest : vertices_left new_marks new_waiting ≡ vertices_left marks waiting
 
+-- the numbers to which the relation leads from u
+abbrev pub AreTargets : (ℕ → ℕ → Type 0) → ℕ → List ℕ → Type 0
+AreTargets R u targets = (t : ℕ) → R u t ↔ Contains targets t
+
 -- the vertices to which the play may go from u
 abbrev pub AreGoals : Game → Evidence → ℕ → List ℕ → Type 0
-AreGoals g e u targets = (t : ℕ) → Goes g e u t ↔ Contains targets t
+AreGoals g e u targets = AreTargets (Goes g e) u targets
 
--- What is marked is reached from the root, and where the play may go on from a marked vertex to one that is not marked, the first one waits.
-pub record IsMarkedWalk (g : Game) (e : Evidence) (root : ℕ) (marks : List Bool) (waiting : List ℕ) : Type 0 where
-  pub long : length marks ≡ length g.vertices
+-- What is marked is reached from the root along the relation, and where that leads from a marked number to one that is not marked, the first one waits.
+pub record IsMarkedWalk (size : ℕ) (R : ℕ → ℕ → Type 0) (root : ℕ) (marks : List Bool) (waiting : List ℕ) : Type 0 where
+  pub long : length marks ≡ size
   pub begins : IsTrue (is_marked marks root)
-  pub reached : (t : ℕ) → IsTrue (is_marked marks t) → (others : List ℕ) × IsPath (Goes g e) root others t
-  pub follows : (u t : ℕ) → IsTrue (is_marked marks u) → Goes g e u t → IsTrue (is_marked marks t) ⊎ Contains waiting u
+  pub reached : (t : ℕ) → IsTrue (is_marked marks t) → (others : List ℕ) × IsPath R root others t
+  pub follows : (u t : ℕ) → IsTrue (is_marked marks u) → R u t → IsTrue (is_marked marks t) ⊎ Contains waiting u
   pub known : (u : ℕ) → Contains waiting u → IsTrue (is_marked marks u)
+
+-- The state can be reached from the initial one by steps of any label.
+abbrev pub CanBeReached : System → ℕ → Type 0
+CanBeReached l s = Leads l (Star (Step Anything)) l.initial s
+
+-- one mark for each state, true where it can be reached
+pub record MarksReached (l : System) (marks : List Bool) : Type 0 where
+  pub long : length marks ≡ l.states
+  pub exact : (s : ℕ) → IsTrue (is_marked marks s) ↔ CanBeReached l s

@@ -4,4 +4,4 @@
 pub mod drawing;
 pub mod one_way;
 pub mod part;
-mod walk;
+pub mod walk;

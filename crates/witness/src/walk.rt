@@ -1,13 +1,16 @@
-// The vertices that the play reaches.
+// The vertices that the play reaches, and the states that can be reached.
 
 ghost use Rattle.std.specs.Prelude.{◌≡◌, ◌<◌, ◌∷◌, [], ℕ, List, IfOk, OnOk, length};
 ghost use Rattle.std.specs.List.{AllByRecursion};
 ghost use Rattle.evidence.specs.Evidence.{IsGood};
 ghost use Rattle.evidence.specs.Witness.{AreReached};
-ghost use Rattle.witness.specs.Walk.{AreGoals, Visits, is_marked};
+ghost use Rattle.calculus.specs.Meaning.{Leads};
+ghost use Rattle.calculus.specs.Tree.{Anything, Step};
+ghost use Rattle.witness.specs.Walk.{AreGoals, AreTargets, MarksReached, Visits, is_marked};
 
 use evidence::evidence::Evidence;
 use game::graph::Game;
+use lts::Lts;
 use std::alloc::Global;
 use text::Memory;
 
@@ -78,6 +81,38 @@ pub(crate) fn reached(
     visit(&mut marks, &mut waiting, root)?;
     while let Some(u) = waiting.pop() {
         follow(game, evidence, u, &mut marks, &mut waiting)?;
+    }
+    Ok(marks)
+}
+
+// Marks the states to which steps lead from a state.
+fn follow_steps(
+    system: &Lts,
+    state: u32,
+    marks: &mut Vec<bool>,
+    waiting: &mut Vec<u32>,
+) -> Result<(), Memory>
+    requires state { state < system.now.system.states }
+    requires long { length marks.old.items ≡ system.now.system.states }
+
+    ensures { OnOk result ((targets : List ℕ) × AreTargets (Leads system.now.system (Step Anything)) state targets
+        × Visits marks.old.items waiting.old.items targets marks.new.items waiting.new.items) }
+{
+    for step in system.from(state) {
+        visit(marks, waiting, step.target)?;
+    }
+    Ok(())
+}
+
+/// A mark for each state, true where it can be reached from the initial one.
+pub fn reached_states(alloc: Global, system: &Lts) -> Result<Vec<bool>, Memory>
+    ensures { IfOk result (λ marks. MarksReached system.now.system marks.items) }
+{
+    let mut marks = vec![in alloc; false; system.states() as usize]?;
+    let mut waiting = Vec::new(alloc);
+    visit(&mut marks, &mut waiting, system.initial())?;
+    while let Some(state) = waiting.pop() {
+        follow_steps(system, state, &mut marks, &mut waiting)?;
     }
     Ok(marks)
 }
