@@ -41,24 +41,24 @@ pub struct GuessedMeasures {
     pub odd: GuessedLayout,
 }
 
-// The search once it has ended, with the component of each node, what its numbers are made of, the greatest priority, and whether any vertex counts.
+// The search once it has ended, with the component of each node, where its numbers come from, the greatest priority, and whether any vertex counts.
 #[derive(Drop)]
 struct FoundMeasures<'a> {
     search: ArenaSearch<'a>,
     parts: List<NodeComponent>,
-    numbers: List<NodeNumbers>,
+    numbers: List<NumberSource>,
     greatest: u32,
     has_counts: bool,
 }
 
-// What the numbers of a node's vertices are made of: the list of its measures, and what is above all fields.
+// Where the numbers of a node's vertices come from: the list of its measures, and what is above all fields.
 #[derive(Clone, Copy)]
-struct NodeNumbers {
+struct NumberSource {
     list: usize,
     above: u64,
 }
 
-const NO_NUMBERS: NodeNumbers = NodeNumbers {
+const NO_NUMBERS: NumberSource = NumberSource {
     list: NONE,
     above: 0,
 };
@@ -123,9 +123,9 @@ impl FoundMeasures<'_> {
         base.wrapping_add(self.search.counted(list, state))
     }
 
-    fn numbers_of(&self, node: usize) -> NodeNumbers {
+    fn numbers_of(&self, node: usize) -> NumberSource {
         let ArenaSearch { arena, layout, .. } = &self.search;
-        NodeNumbers {
+        NumberSource {
             list: self.search.measures(node),
             above: layout.group(arena, arena.node(node)),
         }
@@ -134,7 +134,7 @@ impl FoundMeasures<'_> {
     // Writes the heights of a vertex after its number: one at each count of the winner's, where there is anything to count.
     fn write_heights(&self, rows: &mut List<u64>, first: usize, number: usize, state: usize) {
         let node = self.search.arena.node(number);
-        let NodeNumbers { list, above } = self.numbers_of(number);
+        let NumberSource { list, above } = self.numbers_of(number);
         let word = self.search.counted(list, state);
         let is_odd = self.search.odd.has(number, state);
         let fields = self.search.layout.fields(is_odd);
@@ -151,7 +151,7 @@ impl FoundMeasures<'_> {
     // Writes the row of a vertex from a place on.
     #[inline(always)]
     fn write(&self, rows: &mut List<u64>, first: usize, node: usize, state: usize) {
-        let NodeNumbers { list, above } = self.numbers.get_or(node, NO_NUMBERS);
+        let NumberSource { list, above } = self.numbers.get_or(node, NO_NUMBERS);
         let word = self.search.counted(list, state);
         let is_odd = self.search.odd.has(node, state);
         let number = self.raised(word).wrapping_add(above);
