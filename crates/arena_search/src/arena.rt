@@ -4,6 +4,7 @@ use crate::edges::{Edges, Kinds};
 use crate::search::Vertex;
 use calculus::form::Normal;
 use calculus::node::Kind;
+use game::limits::MOST_VERTICES;
 use game::list::List;
 use std::alloc::Global;
 use systems::system::Lts;
@@ -110,8 +111,12 @@ pub(crate) struct Arena {
 }
 
 impl Arena {
-    /// The nodes of a normal form at the states of a system, if labels are of few kinds and there is memory for all.
+    /// The nodes of a normal form at the states of a system, if they are no more than a game may have, labels are of few kinds, and there is memory for all.
     pub(crate) fn of(alloc: Global, lts: &Lts, form: &Normal, is_exact: bool) -> Option<Self> {
+        let vertices = u64::from(lts.states()).saturating_mul(u64::from(form.count()));
+        if vertices.saturating_add(2) > MOST_VERTICES as u64 {
+            return None;
+        }
         let kinds = Kinds::of(alloc, lts, form)?;
         let mut arena = Arena {
             states: lts.states() as usize,

@@ -15,8 +15,8 @@ use Rattle.requests.specs.declared.error.MuError.{MuError}
 use Rattle.requests.specs.declared.error.MuError.TheVariants as error
 
 -- what the node of this number is
-abbrev pub shape_at : List Node → ℕ → Option Shape
-shape_at nodes k = option_map (λ (node : Node). node.shape) (slice_get nodes k)
+abbrev pub shape_of_node : List Node → ℕ → Option Shape
+shape_of_node nodes k = option_map (λ (node : Node). node.shape) (slice_get nodes k)
 
 -- It is the variable of the node 0.
 abbrev pub is_first_variable : Option Shape → Bool
@@ -25,26 +25,26 @@ is_first_variable _ = false
 
 -- It is `[true]X`, where the answer is yes, and `<true>X`, where it is no, X the variable of the node 0.
 abbrev pub steps_again : List Node → (answer : Bool) → Option Shape → Bool
-steps_again nodes answer (Some (ModalityNode true Anything child)) = not answer && is_first_variable (shape_at nodes child)
-steps_again nodes answer (Some (ModalityNode false Anything child)) = answer && is_first_variable (shape_at nodes child)
+steps_again nodes answer (Some (ModalityNode true Anything child)) = not answer && is_first_variable (shape_of_node nodes child)
+steps_again nodes answer (Some (ModalityNode false Anything child)) = answer && is_first_variable (shape_of_node nodes child)
 steps_again nodes answer _ = false
 
 -- It is a conjunction, where the answer is yes, and a disjunction, where it is no, one part of which is such a modality.
 abbrev pub joins_again : List Node → (answer : Bool) → Option Shape → Bool
 joins_again nodes answer (Some (JunctionNode true left right)) =
-    not answer && (steps_again nodes answer (shape_at nodes left) || steps_again nodes answer (shape_at nodes right))
+    not answer && (steps_again nodes answer (shape_of_node nodes left) || steps_again nodes answer (shape_of_node nodes right))
 joins_again nodes answer (Some (JunctionNode false left right)) =
-    answer && (steps_again nodes answer (shape_at nodes left) || steps_again nodes answer (shape_at nodes right))
+    answer && (steps_again nodes answer (shape_of_node nodes left) || steps_again nodes answer (shape_of_node nodes right))
 joins_again nodes answer _ = false
 
 abbrev pub begins_again : List Node → (answer : Bool) → Option Shape → Bool
-begins_again nodes answer (Some (FixpointNode true child)) = not answer && joins_again nodes answer (shape_at nodes child)
-begins_again nodes answer (Some (FixpointNode false child)) = answer && joins_again nodes answer (shape_at nodes child)
+begins_again nodes answer (Some (FixpointNode true child)) = not answer && joins_again nodes answer (shape_of_node nodes child)
+begins_again nodes answer (Some (FixpointNode false child)) = answer && joins_again nodes answer (shape_of_node nodes child)
 begins_again nodes answer _ = false
 
 -- The normal form is `nu X. (f && [true]X)`, where the answer is yes, and `mu X. (f || <true>X)`, where it is no, with its parts in either order.
 abbrev pub asks_of_states : List Node → (answer : Bool) → Bool
-asks_of_states nodes answer = begins_again nodes answer (shape_at nodes 0)
+asks_of_states nodes answer = begins_again nodes answer (shape_of_node nodes 0)
 
 -- The formula asks so of all states that can be reached, and each of them has this answer.
 pub record HaveAnswer (l : System) (nodes : List Node) (f : Formula) (answer : Bool) : Type 0 where

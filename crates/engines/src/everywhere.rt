@@ -7,7 +7,7 @@ ghost use Rattle.calculus.specs.Closed.{closed_formula};
 ghost use Rattle.calculus.specs.NodeView.{shape_of};
 ghost use Rattle.calculus.specs.Normal.{normal_nodes};
 ghost use Rattle.witness.specs.Walk.{is_marked};
-ghost use Rattle.engines.specs.Everywhere.{CountsReached, HaveMark, IsToldIn, answer_front as answer_front_of, answer_text, asks_of_states as asks_of_states_in, is_first_variable as is_first_variable_of, joins_again as joins_again_in, shape_at, steps_again as steps_again_in};
+ghost use Rattle.engines.specs.Everywhere.{CountsReached, HaveMark, IsToldIn, answer_front as answer_front_of, answer_text, asks_of_states as asks_of_states_in, is_first_variable as is_first_variable_of, joins_again as joins_again_in, shape_of_node, steps_again as steps_again_in};
 
 use calculus::closed::Closed;
 use calculus::form::Normal;
@@ -68,7 +68,7 @@ fn asks_of_states(form: &Normal, answer: bool) -> bool
 }
 
 fn joins_again(form: &Normal, answer: bool, k: u32) -> bool
-    ensures { let nodes = normal_nodes form.now in result ≡ joins_again_in nodes answer (shape_at nodes k) }
+    ensures { let nodes = normal_nodes form.now in result ≡ joins_again_in nodes answer (shape_of_node nodes k) }
 {
     match kind_at(form, k) {
         Some(Kind::Or(left, right)) => {
@@ -82,7 +82,7 @@ fn joins_again(form: &Normal, answer: bool, k: u32) -> bool
 }
 
 fn steps_again(form: &Normal, answer: bool, k: u32) -> bool
-    ensures { let nodes = normal_nodes form.now in result ≡ steps_again_in nodes answer (shape_at nodes k) }
+    ensures { let nodes = normal_nodes form.now in result ≡ steps_again_in nodes answer (shape_of_node nodes k) }
 {
     match kind_at(form, k) {
         Some(Kind::Dia(Act::True, child)) => !answer && is_first_variable(form, *child),
@@ -92,14 +92,14 @@ fn steps_again(form: &Normal, answer: bool, k: u32) -> bool
 }
 
 fn is_first_variable(form: &Normal, k: u32) -> bool
-    ensures { result ≡ is_first_variable_of (shape_at (normal_nodes form.now) k) }
+    ensures { result ≡ is_first_variable_of (shape_of_node (normal_nodes form.now) k) }
 {
     matches!(kind_at(form, k), Some(Kind::Var(0)))
 }
 
 /// What the node of this number is.
 fn kind_at(form: &Normal, k: u32) -> Option<&Kind>
-    ensures { option_map (λ kind. shape_of kind.now) result ≡ shape_at (normal_nodes form.now) k }
+    ensures { option_map (λ kind. shape_of kind.now) result ≡ shape_of_node (normal_nodes form.now) k }
 {
     if k < form.count() {
         Some(&form.node(k).kind)
