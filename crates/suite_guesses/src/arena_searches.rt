@@ -220,8 +220,10 @@ fn wrong_measures_are_refused(rt: HostRuntime) {
 fn drop_heights(proposals: &mut Proposals) {
     let stride = (proposals.width as usize).saturating_add(1);
     for place in 0..proposals.rows.len() {
-        if place.checked_rem(stride) != Some(0) {
-            proposals.rows[place] = 0;
+        if place.checked_rem(stride) != Some(0)
+            && let Some(height) = proposals.rows.get_mut(place)
+        {
+            *height = 0;
         }
     }
 }
