@@ -1,20 +1,12 @@
-// What is told of a formula in a table: of one that is refused the place in the text, or its size, and of one whose text nearly says what is expected that
-// it doesn't.
+// What is told of a formula in a table: of one that is refused the place in the text, and of one whose text nearly says what is expected that it doesn't.
 
 use crate::input::{lasts, open};
 use crate::refusal::{Refusal, tell};
 use crate::sight::front_of_line;
 use crate::told::FileName;
-use calculus::closed::Closed;
-use calculus::priorities::Priorities;
-use game::error::BuildError;
-use game::limits::MOST_VERTICES;
 use lts::system::Lts;
-use normal::make::normal_with;
 use requests::error::MuError;
-use requests::request::Table;
 use requests::texts::{look_where, parse_front, read_front};
-use std::alloc::Global;
 use std::fs::File;
 use std::io;
 use std::io::BufReader;
@@ -22,52 +14,26 @@ use std::io::BufReader;
 /// How much of a line is looked at.
 const LOOKED_AT: u64 = 80;
 
-/// Tells where the formula of a file is at fault, or how much it is too large, as a check does. What came from standard input or a pipe can't be read again.
-pub fn tell_fault(rt: &HostRuntime, system: &Lts, request: &Table<'_>, name: &str) {
+/// Tells where the formula of a file is at fault, as a check does. What came from standard input or a pipe can't be read again.
+pub fn tell_fault(rt: &HostRuntime, system: &Lts, strict: bool, name: &str) {
     if !lasts(rt, name) {
         return;
     }
-    if let Some(
-        error @ (MuError::Formula(_)
-        | MuError::NoLabel { .. }
-        | MuError::Normal(_)
-        | MuError::Build(_)),
-    ) = fault_of(rt, system, request, name)
-    {
-        let files = [Some(request.system), Some(name), None, None];
+    if let Some(error @ (MuError::Formula(_) | MuError::NoLabel { .. })) = fault_of(
+        rt, system, strict, name,
+    ) {
         // Where standard error fails too, the line of the table tells.
-        let _ = tell(rt, &files, &Refusal::from(error));
+        let _ = tell(rt, &[None, Some(name), None, None], &Refusal::from(error));
     }
 }
 
 /// Why the text of a file is refused when it is read anew.
-fn fault_of(rt: &HostRuntime, system: &Lts, request: &Table<'_>, name: &str) -> Option<MuError> {
+fn fault_of(rt: &HostRuntime, system: &Lts, strict: bool, name: &str) -> Option<MuError> {
     let formula = open(rt, name).ok()?;
     let text = read_front(rt.alloc(), formula).ok()?;
-    match parse_front(rt.alloc(), &text) {
-        Ok(formula) => match look_where(rt.alloc(), system, &text, request.strict) {
-            Ok(_) => limit_passed(rt.alloc(), system, &formula, request.options.priorities),
-            Err(error) => Some(error),
-        },
-        Err(error) => Some(error),
-    }
-}
-
-/// The limit of normal forms or of games that is passed, if one is.
-fn limit_passed(
-    alloc: Global,
-    system: &Lts,
-    formula: &Closed,
-    rule: Priorities,
-) -> Option<MuError> {
-    match normal_with(alloc, formula, rule) {
-        Err(error) => Some(MuError::Normal(error)),
-        Ok(form) => {
-            let pairs = u64::from(system.states()).saturating_mul(u64::from(form.count()));
-            (pairs.saturating_add(2) > MOST_VERTICES as u64).then_some(MuError::Build(
-                BuildError::TooManyVertices,
-            ))
-        }
+    match parse_front(rt.alloc(), &text).err() {
+        None => look_where(rt.alloc(), system, &text, strict).err(),
+        Some(error) => Some(error),
     }
 }
 

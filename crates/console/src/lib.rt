@@ -1,7 +1,6 @@
 // Files and the terminal: what is read and made, the line that says what is being done, notes, refusals as they are told, commands without verdicts.
 #![tactic(auto)]
 
-mod counts;
 pub mod fault;
 pub mod files;
 pub mod input;

@@ -1,6 +1,5 @@
 // What is told of a refusal on standard error.
 
-use crate::counts::wrong_size;
 use crate::notes::is_near;
 use crate::sight::{Finding, NOTHING_FOUND, find};
 use crate::told::{FileName, say};
@@ -86,10 +85,7 @@ pub fn tell(rt: &HostRuntime, files: &[Option<&str>; 4], refusal: &Refusal) -> i
         _ => {
             eprintln!(rt; "mucheck: {error}")?;
             match error.to_string(rt.alloc()) {
-                Ok(text) => match wrong_size(rt, files, error) {
-                    Some(wrong) => tell_wrong(rt, text.as_str(), wrong),
-                    None => tell_rest(rt, refused(files, error), text.as_str(), cause.as_ref()),
-                },
+                Ok(text) => tell_rest(rt, refused(files, error), text.as_str(), cause.as_ref()),
                 // Where there is no memory, the line with the code stands alone.
                 Err(_) => Ok(()),
             }
@@ -207,15 +203,6 @@ fn tell_at(rt: &HostRuntime, code: &str, name: &str, words: &str) -> io::Result<
         }
         None => eprintln!(rt; "mucheck: in {name}, {words}")?,
     }
-    tell_end(rt, code, found)
-}
-
-/// Tells that this is wrong, and what is to be done.
-fn tell_wrong(rt: &HostRuntime, code: &str, wrong: String) -> io::Result<()> {
-    let found = Finding {
-        wrong: Some(wrong),
-        ..NOTHING_FOUND
-    };
     tell_end(rt, code, found)
 }
 

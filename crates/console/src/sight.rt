@@ -21,7 +21,7 @@ const BEHIND: usize = 20;
 const BLANKS: &str = "                                                                            ";
 
 /// How many bytes of a line are looked at: more than a label has.
-pub(crate) const LOOKED_AT: u64 = 8192;
+const LOOKED_AT: u64 = 8192;
 
 /// What some editors put in front of a text.
 const MARK: &[u8] = b"\xef\xbb\xbf";

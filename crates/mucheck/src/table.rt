@@ -99,7 +99,7 @@ fn put_unopened<T: Wait>(out: &mut Output<'_, T>, shown: &str) -> Result<(), Wri
     put(out, b"\n")
 }
 
-/// Writes the line of a formula's file, and answers its status. Where the formula is at fault or too large, standard error tells of it.
+/// Writes the line of a formula's file, and answers its status. Where the formula is at fault, standard error tells the place.
 fn write_line<T: TimedRuntime>(
     rt: &HostRuntime,
     threads: &T,
@@ -129,7 +129,7 @@ fn write_line<T: TimedRuntime>(
     drop(line);
     let status = status?;
     if status == AT_FAULT {
-        tell_fault(rt, system, request, name);
+        tell_fault(rt, system, request.strict, name);
     }
     Ok(status)
 }

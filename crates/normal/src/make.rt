@@ -53,7 +53,7 @@ pub fn normal_with(
     ensures refused { IfErr result (HasRefusalWith priorities (closed_formula formula.now)) }
 {
     let tree = formula.tree();
-    if counted_nodes(tree, MOST_NODES as u64).is_none() {
+    if counted_nodes(tree).is_none() {
         return Err(NormalError::TooManyNodes);
     }
     let part = Part::Formula(true, tree, &NumberedScope::Empty);

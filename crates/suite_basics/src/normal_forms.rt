@@ -6,7 +6,7 @@ use calculus::form::Normal;
 use calculus::node::Kind;
 use calculus::priorities::Priorities;
 use calculus::tree::Act;
-use normal::count::{MOST_COUNTED, counted_nodes};
+use normal::count::counted_nodes;
 use normal::make::{normal, normal_with};
 use normal::printer::print_normal;
 use samples::holds;
@@ -80,7 +80,7 @@ fn nodes_are_numbered_in_preorder(rt: HostRuntime) {
 
 // How many nodes are counted, how many there are and how deep binders alternate.
 fn sizes(alloc: Global, formula: &Closed, form: &Normal) -> Result<String, AllocError> {
-    let counted = counted_nodes(formula.tree(), MOST_COUNTED).unwrap_or(0);
+    let counted = counted_nodes(formula.tree()).unwrap_or(0);
     let (nodes, depth) = (form.nodes().len(), form.depth());
     format!(in alloc; "{counted} {nodes} {depth}")
 }
