@@ -32,8 +32,7 @@ unplayed_caused rule board l f aut formula e (inr h) = unshown_caused aut formul
 
 pub unprepared_caused : (wanted : Wanted) (aut formula : Bool) (e : MuError) → IsUnprepared wanted e → HaveCauses aut formula e
 unprepared_caused wanted aut formula e (inl h) = unevidenced_caused aut formula e h.1
-unprepared_caused wanted aut formula e (inr (inl h)) = unshown_caused aut formula e h.1
-unprepared_caused wanted aut formula e (inr (inr h)) = memory_caused aut formula e h
+unprepared_caused wanted aut formula e (inr h) = unshown_caused aut formula e h.1
 
 -- what is answered of what was written
 pub written_caused : {T : Type 0} → (wrote : Result Unit WriteFault) (r : Result T MuError) (answer : T) (aut formula : Bool)

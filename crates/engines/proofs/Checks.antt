@@ -39,11 +39,9 @@ pub unprepared_of : (way : Way) (l : System) (f : Formula) (wanted : Wanted) (fi
 unprepared_of way l f wanted first second writers e spelled within kept even witness (inl (asked, is)) =
     subst (RefusesCheck way first second writers) (sym is)
     (record { l = l; f = f; spelled = spelled; within = within; needed = inl (even asked); memory = refl }, kept)
-unprepared_of way l f wanted first second writers e spelled within kept even witness (inr (inr is)) =
+unprepared_of way l f wanted first second writers e spelled within kept even witness (inr (asked, inl is)) =
     subst (RefusesCheck way first second writers) (sym is) ((l, spelled.system.spelled), kept)
-unprepared_of way l f wanted first second writers e spelled within kept even witness (inr (inl (asked, inl is))) =
-    subst (RefusesCheck way first second writers) (sym is) ((l, spelled.system.spelled), kept)
-unprepared_of way l f wanted first second writers e spelled within kept even witness (inr (inl (asked, inr is))) =
+unprepared_of way l f wanted first second writers e spelled within kept even witness (inr (asked, inr is)) =
     subst (RefusesCheck way first second writers) (sym is)
     (record { l = l; f = f; spelled = spelled; within = within; needed = inr (witness asked); memory = refl }, kept)
 
@@ -105,7 +103,7 @@ unplayed_all rule board l f wanted first second game even odd witness out e aske
     beyond_of rule (Some board) first second (all_writers wanted game game even even odd odd witness witness out out) l f e spelled beyond
     (kept_writers wanted game even odd witness out)
 unplayed_all rule board l f wanted first second game even odd witness out e asked spelled (inr h) =
-    unprepared_all (ByGame rule (Some board)) l f wanted first second game even odd witness out e spelled h.0 (inr (inl (asked, h.1)))
+    unprepared_all (ByGame rule (Some board)) l f wanted first second game even odd witness out e spelled h.0 (inr (asked, h.1))
 
 alone_kept : (form : ReportForm) (game even odd witness old new : Taken) → AreKept (report_writer form old new)
     → AreKept (all_writers (request.report_alone form) game game even even odd odd witness witness old new)

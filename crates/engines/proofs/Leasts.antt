@@ -1,9 +1,5 @@
--- Evidence that is written from least measures, and then the report.
-use Rattle.std.proofs.Common.{◌≡◌, ◌+◌, ◌*◌, ◌≤◌, ℕ, Bool, List, [], ◌∷◌, Result, Some, inl, inr, length, refl, subst, sym}
-use Rattle.std.specs.Result.{IsErr}
-use Rattle.text.specs.Taken.{Taken, Adds}
-use Rattle.text.specs.Wrote.{Wrote, WroteFront}
-use Rattle.text.proofs.Writing.{Stays-refl}
+-- Evidence that is written from least measures.
+use Rattle.std.proofs.Common.{◌≡◌, ◌+◌, ◌*◌, ◌≤◌, Bool, List, Some, length, refl, subst, sym}
 use Rattle.systems.specs.System.{System}
 use Rattle.calculus.specs.Form.{IsForm}
 use Rattle.calculus.specs.Nodes.{Node}
@@ -24,17 +20,12 @@ use Rattle.evidence.specs.Evidence.{Evidence}
 use Rattle.evidence.specs.Laws.{BestExists}
 use Rattle.workers.specs.declared.team.BoardKind.{BoardKind}
 use Rattle.requests.specs.Check.{ByGame, IsTextOf}
-use Rattle.engines.specs.Alone.{evidence_alone}
-use Rattle.requests.specs.Writers.{AreWritten, EvenText, OddText, ReportText, TextKind, Unasked, all_writers, lent_for}
-use Rattle.requests.specs.declared.request.ReportForm.{ReportForm}
-use Rattle.requests.proofs.Orders.{one_text, stopped_at, then_more, unasked}
+use Rattle.requests.specs.Writers.{EvenText, OddText}
 use Rattle.rankings.specs.Least.{AreWinnersMoves}
 use Rattle.verdicts.specs.declared.evidence_text.LeastMeasures.{LeastMeasures}
 use Rattle.verdicts.specs.declared.proposing.LeastFound.{LeastFound}
 use Rattle.verdicts.specs.EvidenceText.{AreLeastMeasures}
 use Rattle.verdicts.specs.Findings.{IsLeastFound}
-
--- ------------------------------------------------------------------ in the arena of the form that was made
 
 module _ (rule : Priorities) (board : BoardKind) (l : System) (f : Formula) (x : LeastFound) (is : IsLeastFound rule board l f x) where
   abbrev ns : List Node
@@ -64,32 +55,3 @@ module _ (rule : Priorities) (board : BoardKind) (l : System) (f : Formula) (x :
     pub odd_found : (e : Evidence) × IsOddOf (arena l ns) e × IsTextOf (ByGame rule (Some board)) l f marks OddText (evidence_text e)
     odd_found = let w = (best (arena l ns) (arena_is_game l ns form few_here)).1 (arena_low l ns form) in
         (w.0, w.1, (w.0, subst (λ (xs : List Node). IsOddOf (arena l xs) w.0) is.form w.1, refl))
-
--- ------------------------------------------------------------------ one after another
-
-module _ {T E : Type 0} (IsText : TextKind → List ℕ → Type 0) (nothing : IsText Unasked []) (form : ReportForm) (game even_old even_new : Taken) (evens : List ℕ)
-    (even : IsText EvenText evens) (witness : Taken) (r : Result T E) where
-  -- Even's was begun
-  pub even_begun : (odd out : Taken) → IsErr r → WroteFront even_old even_new evens
-      → AreWritten IsText (all_writers (evidence_alone form) game game even_old even_new odd odd witness witness out out) r
-  even_begun odd out h front = stopped_at IsText (all_writers (evidence_alone form) game game even_old even_new odd odd witness witness out out) r h
-      (inr (unasked IsText game nothing, inl ((evens, even, front), (Stays-refl odd, (Stays-refl witness, (Stays-refl out, tt))))))
-
-  module _ (wrote : Adds even_old even_new evens) (odd_old odd_new : Taken) (odds : List ℕ) (odd : IsText OddText odds) where
-    -- and Odd's after it
-    pub odd_begun : (out : Taken) → IsErr r → WroteFront odd_old odd_new odds
-        → AreWritten IsText (all_writers (evidence_alone form) game game even_old even_new odd_old odd_new witness witness out out) r
-    odd_begun out h front = stopped_at IsText (all_writers (evidence_alone form) game game even_old even_new odd_old odd_new witness witness out out) r h
-        (inr (unasked IsText game nothing, inr ((evens, even, wrote), inl ((odds, odd, front), (Stays-refl witness, (Stays-refl out, tt))))))
-
-    -- and the report after both
-    pub both_written : Adds odd_old odd_new odds → (old new : Taken) (report : List ℕ) → IsText (ReportText form) report → Wrote old new r report
-        → AreWritten IsText (all_writers (evidence_alone form) game game even_old even_new odd_old odd_new witness witness old new) r
-    both_written then old new report told last =
-        let tail = lent_for Unasked witness witness ∷ (lent_for (ReportText form) old new ∷ []) in
-        let after = lent_for OddText odd_old odd_new ∷ tail in
-        then_more IsText (lent_for Unasked game game) (lent_for EvenText even_old even_new ∷ after) r (unasked IsText game nothing)
-        (then_more IsText (lent_for EvenText even_old even_new) after r (evens, even, wrote)
-        (then_more IsText (lent_for OddText odd_old odd_new) tail r (odds, odd, then)
-        (then_more IsText (lent_for Unasked witness witness) (lent_for (ReportText form) old new ∷ []) r (unasked IsText witness nothing)
-        (one_text IsText (lent_for (ReportText form) old new) r report told last))))

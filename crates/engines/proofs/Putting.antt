@@ -1,5 +1,5 @@
 -- What is written of what was prepared, writer by writer.
-use Rattle.std.proofs.Common.{◌≡◌, ℕ, true, false, List, [], ◌∷◌, Option, Some, None, Result, inl, inr, refl, subst, sym, ap, ◌∙◌}
+use Rattle.std.proofs.Common.{◌≡◌, ℕ, Bool, true, false, List, [], ◌∷◌, Option, Some, None, Result, inl, inr, refl, subst, sym, ap, ◌∙◌}
 use Rattle.text.proofs.Writing.{Stays-refl}
 use Rattle.text.specs.Taken.{Taken, Adds}
 use Rattle.std.specs.Option.{is_some}
@@ -14,15 +14,10 @@ use Rattle.requests.specs.declared.request.WitnessForm.{WitnessForm}
 use Rattle.requests.specs.declared.request.WitnessForm.TheVariants.{System, Drawing}
 use Rattle.requests.specs.declared.texts.Texts.{Texts}
 use Rattle.game.specs.Game.{Game}
-use Rattle.evidence.specs.Best.{IsEvenOf, IsOddOf}
-use Rattle.evidence.specs.Canon.{evidence_text}
-use Rattle.evidence.specs.Evidence.{Evidence}
-use Rattle.evidence.specs.declared.pair.EvidencePair.{EvidencePair}
 use Rattle.engines.specs.declared.prepared.Prepared.{Prepared}
 use Rattle.engines.specs.declared.prepared.WitnessText.{WitnessText}
 use Rattle.requests.specs.declared.request.Wanted.{Wanted}
-use Rattle.engines.specs.Prepared.{ArePrepared, AreShown, IsTextFound, Outcome, game_played}
-use Rattle.verdicts.specs.Findings.{IsPairOf}
+use Rattle.engines.specs.Prepared.{AreShown, IsTextFound, Outcome}
 use Rattle.requests.specs.Writers.{EvenText, GameText, OddText, Unasked, Lent, AreKept, AreWhole, AreWritten, AreWrittenUpTo, all_writers, kind_where}
 use Rattle.requests.specs.Writers.{lent_for, report_writer, witness_kind}
 use Rattle.engines.proofs.Orders.{one_text, stopped_at, then_more, unasked}
@@ -93,74 +88,64 @@ drawing_written x form u part shown old new r is at same are wrote =
 
 -- ------------------------------------------------------------------ the evidence of both players
 
-pub pair_in : (g : Game) (p : Prepared) (pair : EvidencePair) → p.pair ≡ Some pair → IfSome p.pair (IsPairOf g) → IsPairOf g pair
-pair_in g p pair is h = subst (λ (o : Option EvidencePair). IfSome o (IsPairOf g)) is h
+-- Even's was begun.
+pub even_begun : {T E : Type 0} → (x : Outcome) (evens : List ℕ) (old new odd : Taken) (r : Result T E) → IsTextFound x EvenText evens → IsErr r
+    → WroteFront old new evens → AreWritten (IsTextFound x) (lent_for EvenText old new ∷ (lent_for OddText odd odd ∷ [])) r
+even_begun x evens old new odd r even h front =
+    stopped_at (IsTextFound x) (lent_for EvenText old new ∷ (lent_for OddText odd odd ∷ [])) r h (inl ((evens, even, front), (Stays-refl odd, tt)))
 
-pair_wanted : (p : Prepared) (pair : EvidencePair) → p.pair ≡ Some pair → is_some p.pair ≡ p.wanted.evidence → true ≡ p.wanted.evidence
-pair_wanted p pair is e = sym (ap is_some is) ∙ e
+-- It was written, and then Odd's.
+pub odd_after : {T E : Type 0} → (x : Outcome) (evens odds : List ℕ) (old new odd_old odd_new : Taken) (r : Result T E) → IsTextFound x EvenText evens
+    → IsTextFound x OddText odds → Adds old new evens → Wrote odd_old odd_new r odds
+    → AreWritten (IsTextFound x) (lent_for EvenText old new ∷ (lent_for OddText odd_old odd_new ∷ [])) r
+odd_after x evens odds old new odd_old odd_new r even odd first last =
+    then_more (IsTextFound x) (lent_for EvenText old new) (lent_for OddText odd_old odd_new ∷ []) r (evens, even, first)
+    (one_text (IsTextFound x) (lent_for OddText odd_old odd_new) r odds odd last)
 
-pair_unwanted : (p : Prepared) → p.pair ≡ None → is_some p.pair ≡ p.wanted.evidence → false ≡ p.wanted.evidence
-pair_unwanted p is e = sym (ap is_some is) ∙ e
+-- the writers of both, where evidence is asked for
+abbrev pub both_lent : Bool → (old new odd_old odd_new : Taken) → List Lent → List Lent
+both_lent asked old new odd_old odd_new rest =
+    lent_for (kind_where asked EvenText) old new ∷ (lent_for (kind_where asked OddText) odd_old odd_new ∷ rest)
 
-found_even : (x : Outcome) (g : Game) (e : Evidence) → g ≡ game_played x → IsEvenOf g e → IsTextFound x EvenText (evidence_text e)
-found_even x g e same is = (e, subst (λ (h : Game). IsEvenOf h e) same is, refl)
+-- They were written up to one, and nothing after that.
+pub both_stopped : {T E : Type 0} → (x : Outcome) (made asked : Bool) (old new odd_old odd_new : Taken) (rest : List Lent) (r : Result T E) → made ≡ asked
+    → IsErr r → AreKept rest → AreWrittenUpTo (IsTextFound x) (both_lent made old new odd_old odd_new [])
+    → AreWritten (IsTextFound x) (both_lent asked old new odd_old odd_new rest) r
+both_stopped x made asked old new odd_old odd_new rest r e h kept up =
+    subst (λ b. AreWritten (IsTextFound x) (both_lent b old new odd_old odd_new rest) r) e
+    (stopped_at (IsTextFound x) (both_lent made old new odd_old odd_new rest) r h (elim up [
+      | inl w ↦ inl (w.0, (w.1.0, kept))
+      | inr w ↦ elim w.1 [
+        | inl v ↦ inr (w.0, inl (v.0, kept))
+        | inr v ↦ absurd v.1
+      ]
+    ]))
 
-found_odd : (x : Outcome) (g : Game) (e : Evidence) → g ≡ game_played x → IsOddOf g e → IsTextFound x OddText (evidence_text e)
-found_odd x g e same is = (e, subst (λ (h : Game). IsOddOf h e) same is, refl)
-
--- Even's was begun
-pub even_stopped : {T E : Type 0} → (x : Outcome) (g : Game) (p : Prepared) (pair : EvidencePair) (old new odd : Taken) (rest : List Lent) (r : Result T E)
-    → g ≡ game_played x → IsPairOf g pair → p.pair ≡ Some pair → is_some p.pair ≡ p.wanted.evidence → AreKept rest → IsErr r
-    → WroteFront old new (evidence_text pair.even.evidence)
-    → AreWritten (IsTextFound x) (lent_for (kind_where p.wanted.evidence EvenText) old new ∷ lent_for (kind_where p.wanted.evidence OddText) odd odd ∷ rest) r
-even_stopped x g p pair old new odd rest r same are is e kept h front =
-    subst (λ b. AreWritten (IsTextFound x) (lent_for (kind_where b EvenText) old new ∷ lent_for (kind_where b OddText) odd odd ∷ rest) r)
-    (pair_wanted p pair is e)
-    (stopped_at (IsTextFound x) (lent_for EvenText old new ∷ lent_for OddText odd odd ∷ rest) r h
-    (inl ((evidence_text pair.even.evidence, found_even x g pair.even.evidence same are.even, front), (Stays-refl odd, kept))))
-
--- Even's was written, and Odd's begun
-pub odd_stopped : {T E : Type 0} → (x : Outcome) (g : Game) (p : Prepared) (pair : EvidencePair) (old new odd_old odd_new : Taken) (rest : List Lent)
-    (r : Result T E) → g ≡ game_played x → IsPairOf g pair → p.pair ≡ Some pair → is_some p.pair ≡ p.wanted.evidence → AreKept rest → IsErr r
-    → Adds old new (evidence_text pair.even.evidence)
-    → WroteFront odd_old odd_new (evidence_text pair.odd.evidence)
-    → AreWritten (IsTextFound x) (lent_for (kind_where p.wanted.evidence EvenText) old new ∷ lent_for
-    (kind_where p.wanted.evidence OddText) odd_old odd_new ∷ rest) r
-odd_stopped x g p pair old new odd_old odd_new rest r same are is e kept h whole front =
-    subst (λ b. AreWritten (IsTextFound x) (lent_for (kind_where b EvenText) old new ∷ lent_for (kind_where b OddText) odd_old odd_new ∷ rest) r)
-    (pair_wanted p pair is e)
-    (stopped_at (IsTextFound x) (lent_for EvenText old new ∷ lent_for OddText odd_old odd_new ∷ rest) r h
-    (inr (
-      (evidence_text pair.even.evidence, found_even x g pair.even.evidence same are.even, whole),
-      inl ((evidence_text pair.odd.evidence, found_odd x g pair.odd.evidence same are.odd, front), kept),
-    )))
-
--- both were written, and then the rest
-pub pair_written : {T E : Type 0} → (x : Outcome) (g : Game) (p : Prepared) (pair : EvidencePair) (old new odd_old odd_new : Taken) (rest : List Lent)
-    (r : Result T E) → g ≡ game_played x → IsPairOf g pair → p.pair ≡ Some pair → is_some p.pair ≡ p.wanted.evidence
-    → Adds old new (evidence_text pair.even.evidence) → Adds odd_old odd_new (evidence_text pair.odd.evidence) → AreWritten (IsTextFound x) rest r
-    → AreWritten (IsTextFound x) (lent_for (kind_where p.wanted.evidence EvenText) old new ∷ lent_for
-    (kind_where p.wanted.evidence OddText) odd_old odd_new ∷ rest) r
-pair_written x g p pair old new odd_old odd_new rest r same are is e even odd written =
-    subst (λ b. AreWritten (IsTextFound x) (lent_for (kind_where b EvenText) old new ∷ lent_for (kind_where b OddText) odd_old odd_new ∷ rest) r)
-    (pair_wanted p pair is e)
-    (then_more (IsTextFound x) (lent_for EvenText old new) (lent_for OddText odd_old odd_new ∷ rest) r
-    (evidence_text pair.even.evidence, found_even x g pair.even.evidence same are.even, even)
-    (then_more (IsTextFound x) (lent_for OddText odd_old odd_new) rest r
-    (evidence_text pair.odd.evidence, found_odd x g pair.odd.evidence same are.odd, odd) written))
-
--- none is wanted
-pub unpaired_written : {T E : Type 0} → (x : Outcome) (p : Prepared) (even odd : Taken) (rest : List Lent) (r : Result T E) → p.pair ≡ None
-    → is_some p.pair ≡ p.wanted.evidence
-    → AreWritten (IsTextFound x) rest r → AreWritten (IsTextFound x)
-    (lent_for (kind_where p.wanted.evidence EvenText) even even ∷ lent_for (kind_where p.wanted.evidence OddText) odd odd ∷ rest) r
-unpaired_written x p even odd rest r is e written =
-    subst (λ b. AreWritten (IsTextFound x) (lent_for (kind_where b EvenText) even even ∷ lent_for (kind_where b OddText) odd odd ∷ rest) r)
-    (pair_unwanted p is e)
-    (then_more (IsTextFound x) (lent_for Unasked even even) (lent_for Unasked odd odd ∷ rest) r (unasked x even)
-    (then_more (IsTextFound x) (lent_for Unasked odd odd) rest r (unasked x odd) written))
+-- They were written, and then the rest.
+pub both_written : {T E : Type 0} → (x : Outcome) (made asked : Bool) (old new odd_old odd_new : Taken) (rest : List Lent) (r : Result T E) → made ≡ asked
+    → AreWhole (IsTextFound x) (both_lent made old new odd_old odd_new []) → AreWritten (IsTextFound x) rest r
+    → AreWritten (IsTextFound x) (both_lent asked old new odd_old odd_new rest) r
+both_written x made asked old new odd_old odd_new rest r e whole written =
+    subst (λ b. AreWritten (IsTextFound x) (both_lent b old new odd_old odd_new rest) r) e
+    (then_more (IsTextFound x) (lent_for (kind_where made EvenText) old new) (lent_for (kind_where made OddText) odd_old odd_new ∷ rest) r whole.0
+    (then_more (IsTextFound x) (lent_for (kind_where made OddText) odd_old odd_new) rest r whole.1.0 written))
 
 -- ------------------------------------------------------------------ the game
+
+-- What is asked for is stored.
+pub asked_stored : {A : Type 0} → (o : Option A) (a : A) (asked : Bool) → o ≡ Some a → is_some o ≡ asked → asked ≡ true
+asked_stored o a asked is e = sym e ∙ ap is_some is
+
+pub unasked_stored : {A : Type 0} → (o : Option A) (asked : Bool) → o ≡ None → is_some o ≡ asked → asked ≡ false
+unasked_stored o asked is e = sym e ∙ ap is_some is
+
+pub none_of : {A : Type 0} → (o : Option A) → ((a : A) → o ≡ Some a → ⊥) → o ≡ None
+none_of None h = refl
+none_of (Some a) h = absurd (h a refl)
+
+-- A game that is stored is one that is equal.
+pub stored_as : {A : Type 0} → (now : A → Game) (g h : Game) (o : Option A) → g ≡ h → IfSome o (λ x. now x ≡ g) → IfSome o (λ x. now x ≡ h)
+stored_as now g h o e is = subst (λ y. IfSome o (λ x. now x ≡ y)) e is
 
 -- it was begun
 pub game_stopped : {T E : Type 0} → (x : Outcome) (wanted : Wanted) (old new even odd witness out : Taken) (text : List ℕ) (r : Result T E)
@@ -186,14 +171,3 @@ pub game_unasked : {T E : Type 0} → (x : Outcome) (wanted : Wanted) (old : Tak
 game_unasked x wanted old rest r is written =
     subst (λ b. AreWritten (IsTextFound x) (lent_for (kind_where b GameText) old old ∷ rest) r) (sym is)
     (then_more (IsTextFound x) (lent_for Unasked old old) rest r (unasked x old) written)
-
--- ------------------------------------------------------------------ all
-
--- What is wanted is what was asked for, and the texts and the game are those that these are read off.
-pub all_put : {T E : Type 0} → (x : Outcome) (t : Texts) (g h : Game) (p : Prepared) (wanted : Wanted) (a b c d e f i j k m : Taken) (r : Result T E)
-    → t ≡ x.texts → g ≡ h → p.wanted ≡ wanted → ArePrepared x h p
-    → ((y : Outcome) → y.texts ≡ t → ArePrepared y g p → AreWritten (IsTextFound y) (all_writers p.wanted a b c d e f i j k m) r)
-    → AreWritten (IsTextFound x) (all_writers wanted a b c d e f i j k m) r
-all_put x t g h p wanted a b c d e f i j k m r at same asked made put =
-    subst (λ (w : Wanted). AreWritten (IsTextFound x) (all_writers w a b c d e f i j k m) r) asked
-    (put x (sym at) (subst (λ (y : Game). ArePrepared x y p) (sym same) made))

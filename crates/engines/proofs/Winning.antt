@@ -1,5 +1,5 @@
 -- Evidence that has the initial state's vertex with the root node.
-use Rattle.std.proofs.Common.{◌≡◌, ◌<◌, ℕ, Bool, true, false, Some, inl, inr, refl, sym, ap, ◌∙◌, subst, true≢false}
+use Rattle.std.proofs.Common.{◌≡◌, ◌<◌, ℕ, Bool, false, Some, inl, inr, refl, sym, ap, ◌∙◌, subst, true≢false}
 use Rattle.std.specs.Prelude.{IsTrue, ◌↔◌, ◌⊎◌, IfOk, List, Result, Ok, Err, slice_index_or}
 use Rattle.std.specs.Arc.{arc_value}
 use Rattle.systems.specs.Numbered.{IsInside, system_with}
@@ -15,7 +15,7 @@ use Rattle.calculus.specs.Rules.{nodes_with}
 use Rattle.calculus.specs.declared.priorities.Priorities.{Priorities}
 use Rattle.calculus.specs.NormalTree.{normal_form}
 use Rattle.game.specs.Game.{Game, IsGame}
-use Rattle.game.specs.Wins.{OddWins, Wins}
+use Rattle.game.specs.Wins.{OddWins}
 use Rattle.measures.specs.Laws.{OneWins}
 use Rattle.laws.specs.Admissible.{IsNodes}
 use Rattle.laws.specs.Laws.{ChosenIsAdmissible}
@@ -44,13 +44,6 @@ some_same a b e = cc
 
 won_in : (x : Findings) → AreFindings x → MarksOf (system_of x).states x.marks.items (WinsRoot (game_in x))
 won_in x found = subst (λ (g : Game). MarksOf (system_of x).states x.marks.items (WinsRoot g)) (sym found.solution.game.same) found.marks.won
-
-even_there : (x : Findings) → AreFindings x → (system_of x).initial < (system_of x).states → mark_in x ≡ true → (v : ℕ)
-    → place_in (game_in x) (system_of x).initial 0 ≡ Some v
-    → Wins (game_in x) v
-even_there x found inside mark v at =
-    let w = ((won_in x found).exact (system_of x).initial inside).0 mark in
-    subst (Wins (game_in x)) (some_same w.0 v (sym w.1 ∙ at)) w.2
 
 odd_there : (x : Findings) → AreFindings x → (system_of x).initial < (system_of x).states → OneWins → IsGame (game_in x) → mark_in x ≡ false → (v : ℕ)
     → place_in (game_in x) (system_of x).initial 0 ≡ Some v → OddWins (game_in x) v
@@ -88,15 +81,7 @@ played l nodes g e game same is good root kind = record {
   };
 }
 
--- Even's, where the initial state satisfies the formula
-pub even_winning : (x : Findings) (e : NamedEvidence) → AreFindings x → (system_of x).initial < (system_of x).states → mark_in x ≡ true → e.game ≡ game_in x
-    → IsEvidence e.game e.evidence → IsEvenOf (game_in x) e.evidence → IsGood (game_in x) e.evidence
-    → ((v : ℕ) → IsTrue (has e.evidence v) ↔ Wins (game_in x) v) → IsWinning x e
-even_winning x e found inside mark same is even good exact =
-    played (system_of x) (normal_nodes x.solution.form) (game_in x) e (arena_in x found) same is good
-    ((exact (root_in x)).1 (even_there x found inside mark (root_in x) (root_at x found))) (inr (inl even))
-
--- Odd's, where it doesn't
+-- Odd's, where the initial state doesn't satisfy the formula
 pub odd_winning : (x : Findings) (e : NamedEvidence) → AreFindings x → (system_of x).initial < (system_of x).states → OneWins → IsGame (game_in x)
     → mark_in x ≡ false → e.game ≡ game_in x → IsEvidence e.game e.evidence
     → IsOddOf (game_in x) e.evidence → IsGood (game_in x) e.evidence → ((v : ℕ) → IsTrue (has e.evidence v) ↔ OddWins (game_in x) v)

@@ -1,4 +1,3 @@
-pub mod Alone
 pub mod Everywhere
 pub mod Play
 pub mod Prepared

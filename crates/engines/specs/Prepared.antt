@@ -1,5 +1,5 @@
 -- What a check by a game makes of what it has found out: the texts that are written of it, and what is made before they are.
-use Rattle.std.specs.Prelude.{◌≡◌, ℕ, ◌⊎◌, Bool, List, Option, Some, IfSome, IsTrue, option_map}
+use Rattle.std.specs.Prelude.{◌≡◌, ℕ, ◌⊎◌, Bool, false, true, List, Option, Some, IfSome, IsTrue, option_map}
 use Rattle.std.specs.Arc.{arc_value}
 use Rattle.std.specs.Option.{is_some}
 use Rattle.systems.specs.Numbered.{IsInside, system_with}
@@ -16,16 +16,17 @@ use Rattle.requests.specs.declared.error.MuError.{MuError}
 use Rattle.requests.specs.declared.error.MuError.TheVariants as error
 use Rattle.requests.specs.declared.request.Wanted.{Wanted}
 use Rattle.engines.specs.declared.play.PlayFound.{PlayFound}
+use Rattle.engines.specs.declared.prepared.BothEvidence.{BothEvidence}
+use Rattle.engines.specs.declared.prepared.BothEvidence.TheVariants.{Least, Made, Neither}
 use Rattle.engines.specs.declared.prepared.Prepared.{Prepared}
 use Rattle.engines.specs.declared.prepared.WitnessText.{WitnessText}
 use Rattle.verdicts.specs.declared.findings.Findings.{Findings}
 use Rattle.requests.specs.declared.texts.Texts.{Texts}
 use Rattle.requests.specs.Check.{ByGame, IsTextOf, game_by_rule}
 use Rattle.workers.specs.declared.team.BoardKind.{BoardKind}
-use Rattle.requests.specs.Report.{report_in}
 use Rattle.requests.specs.Writers.{TextKind}
 use Rattle.engines.specs.Play.{IsPlay, IsUnshown}
-use Rattle.verdicts.specs.Findings.{IsPairOf, system_of}
+use Rattle.verdicts.specs.Findings.{IsLeastFound, IsPairOf, system_of}
 
 -- both texts, the rule and the board by which the states were marked, and their marks
 pub record Outcome : Type 0 where
@@ -57,16 +58,27 @@ pub record AreShown (rule : Priorities) (t : Texts) (part : List Transition) : T
   pub inside : IsInside t.system part
   pub shown : IsShown t.system.system (closed_formula t.formula) (nodes_with rule (closed_formula t.formula)) (system_with t.system part)
 
--- The game is that of the texts, the evidence and the witness that are wanted are made, and the report in its form.
-pub record ArePrepared (x : Outcome) (g : Game) (p : Prepared) : Type 0 where
-  pub game : g ≡ game_played x
-  pub pair : IfSome p.pair (IsPairOf g)
-  pub evidence : is_some p.pair ≡ p.wanted.evidence
-  pub shown : IfSome p.shown (λ shown. AreShown x.rule x.texts shown.part.items)
+-- whether there is evidence
+abbrev pub is_made : BothEvidence → Bool
+is_made Neither = false
+is_made (Made pair) = true
+is_made (Least least) = true
+
+-- It is that of the game, or is written from the least measures there.
+abbrev pub AreBoth : Outcome → BothEvidence → Type 0
+AreBoth x Neither = Unit {0}
+AreBoth x (Made pair) = IsPairOf (game_played x) pair
+AreBoth x (Least least) = (board : BoardKind) × IsLeastFound x.rule board x.texts.system.system (closed_formula x.texts.formula) least.now
+
+-- Each text that is wanted is made, or what it is written from, and none besides.
+pub record ArePrepared (x : Outcome) (p : Prepared) : Type 0 where
+  pub stored : is_some p.game ≡ p.wanted.game
+  pub game : IfSome p.game (λ g. g.now ≡ game_played x)
+  pub made : is_made p.evidence ≡ p.wanted.evidence
+  pub both : AreBoth x p.evidence
   pub form : option_map (λ (shown : WitnessText). shown.form) p.shown ≡ p.wanted.witness
-  pub report : p.report.items ≡ report_in p.wanted.report x.texts.system.system (closed_formula x.texts.formula) x.marks
+  pub shown : IfSome p.shown (λ shown. AreShown x.rule x.texts shown.part.items)
 
 -- There was no memory for what is wanted.
 abbrev pub IsUnprepared : Wanted → MuError → Type 0
-IsUnprepared wanted e =
-    (IsTrue wanted.evidence × (e ≡ error.Evidence evidence.Memory)) ⊎ ((IsTrue (is_some wanted.witness) × IsUnshown e) ⊎ (e ≡ error.Memory))
+IsUnprepared wanted e = (IsTrue wanted.evidence × (e ≡ error.Evidence evidence.Memory)) ⊎ (IsTrue (is_some wanted.witness) × IsUnshown e)

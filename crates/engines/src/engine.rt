@@ -8,15 +8,13 @@ ghost use Rattle.requests.specs.Command.{wanted_in, way_of};
 ghost use Rattle.requests.specs.Strict.{ChecksBy};
 ghost use Rattle.requests.specs.Writers.{lent_writers, report_writer};
 
-use crate::game_text::{check_game, is_game_alone};
-use crate::least::{check_least, is_evidence_alone};
-use crate::outputs::{answer_play, answer_wanted};
-use crate::play::find_play;
+use crate::outputs::answer_wanted;
+use crate::parts::{check_game, check_least, check_play};
 use game::observer::{Observer, Stage};
 use lts::put;
 use requests::error::MuError;
 use requests::report::report_text;
-use requests::request::{Check, Options, ReportForm, Wanted, WitnessForm};
+use requests::request::{Check, Options, ReportForm, Wanted};
 use requests::texts::{Texts, read_asked};
 use requests::watch::Watcher;
 use requests::writers::Writers;
@@ -24,9 +22,10 @@ use std::alloc::Global;
 use std::hash::BuildHasher;
 use text::sink::Sink;
 use text::source::Source;
-use verdicts::findings::find_in;
+use verdicts::findings::{boxed, find_by_game};
 use verdicts::marks::{game_marks, plain_marks};
 use verdicts::proposing::least_found;
+use verdicts::ranked::ranked_marks;
 use workers::runtime::Runtime;
 
 /// The check that a command asks for: by sets of states where it is plain, and then it writes the report alone; else by a game, with
@@ -156,21 +155,43 @@ fn check_by_game<G: Sink, E: Sink, O: Sink, V: Sink, W: Sink, U: Watcher, H: Run
         let out = &mut writers.report;
         return report_by_game(rt, alloc, &texts, options, wanted.report, out, watcher);
     }
-    if is_game_alone(wanted) {
-        return check_game(rt, alloc, &texts, options, wanted, writers, watcher);
+    if wanted.evidence {
+        return match least_found(alloc, &texts, options, watcher) {
+            Some(least) => check_least(rt, alloc, texts, options, &least, wanted, writers, watcher),
+            None => check_solved(rt, alloc, texts, options, wanted, writers, watcher),
+        };
     }
-    if !wanted.evidence {
-        if let Some(form) = wanted.witness {
-            return check_play(rt, alloc, texts, options, wanted, form, writers, watcher);
+    match wanted.witness {
+        Some(form) => check_play(
+            rt, alloc, texts, options, None, wanted, form, writers, watcher,
+        ),
+        None => {
+            let Texts { system, formula } = &texts;
+            let marks = ranked_marks(rt, alloc, system, formula, options, watcher);
+            check_game(
+                rt, alloc, &texts, options, marks, None, wanted, writers, watcher,
+            )
         }
     }
-    let least = least_found(alloc, &texts, options, watcher);
-    if is_evidence_alone(wanted) {
-        if let Some(least) = &least {
-            return check_least(alloc, &texts, options, least, wanted, writers, watcher);
-        }
-    }
-    let found = find_in(rt, alloc, texts, least, options, watcher)?;
+}
+
+/// Checks what was read by solving its game, and writes what is wanted.
+fn check_solved<G: Sink, E: Sink, O: Sink, V: Sink, W: Sink, U: Watcher, H: Runtime>(
+    rt: &H,
+    alloc: Global,
+    texts: Texts,
+    options: &Options,
+    wanted: Wanted,
+    writers: &mut Writers<G, E, O, V, W>,
+    watcher: &U,
+) -> Result<bool, MuError>
+    ensures answers { (first second : List ℕ) → AreSpelled first second texts.system.system (closed_formula texts.formula)
+        → AnswersCheck (ByGame options.now.priorities (Some options.now.board)) first second
+        (lent_writers G.taken E.taken O.taken V.taken W.taken wanted writers.old writers.new) result }
+    ensures cause { IfErr result (HaveCauses false false) }
+{
+    let texts = boxed(alloc, texts)?;
+    let found = find_by_game(rt, alloc, texts, options, watcher)?;
     answer_wanted(
         alloc,
         &found,
@@ -182,29 +203,6 @@ fn check_by_game<G: Sink, E: Sink, O: Sink, V: Sink, W: Sink, U: Watcher, H: Run
         &mut writers.report,
         watcher,
     )
-}
-
-/// Checks by a play what was read, and writes a witness in this form, the game's text where it is wanted, and the report.
-fn check_play<G: Sink, E: Sink, O: Sink, V: Sink, W: Sink, U: Watcher, H: Runtime>(
-    rt: &H,
-    alloc: Global,
-    texts: Texts,
-    options: &Options,
-    wanted: Wanted,
-    form: WitnessForm,
-    writers: &mut Writers<G, E, O, V, W>,
-    watcher: &U,
-) -> Result<bool, MuError>
-    requires evidence { wanted.evidence ≡ false }
-    requires form { wanted.witness ≡ Some form }
-
-    ensures answers { (first second : List ℕ) → AreSpelled first second texts.system.system (closed_formula texts.formula)
-        → AnswersCheck (ByGame options.now.priorities (Some options.now.board)) first second
-        (lent_writers G.taken E.taken O.taken V.taken W.taken wanted writers.old writers.new) result }
-    ensures cause { IfErr result (HaveCauses false false) }
-{
-    let found = find_play(rt, alloc, texts, options, watcher)?;
-    answer_play(alloc, &found, options, wanted, form, writers, watcher)
 }
 
 /// Checks by a game what was read, and writes the report alone, for which it is enough to know who wins. Where a guess says it, and is good, no

@@ -4,10 +4,9 @@
 
 pub mod engine;
 mod everywhere;
-mod game_text;
-mod least;
 pub mod named;
 mod outputs;
+mod parts;
 mod play;
 mod prepared;
 pub mod reasons;

@@ -29,7 +29,7 @@ use std::alloc::Global;
 use std::sync::Arc;
 use verdicts::findings::{Findings, GameToSolve, boxed, build_with, find_by_game, find_guessed};
 use verdicts::lifting::SolvedGame;
-use verdicts::ranked::{RankedFound, ranked_found};
+use verdicts::ranked::RankedFound;
 use workers::runtime::Runtime;
 
 /// Both texts, the formula's normal form and the game of both, evidence of who wins the initial state's vertex with the root, and a mark for each state, true
@@ -43,30 +43,10 @@ pub struct PlayFound {
     pub marks: Vec<bool>,
 }
 
-/// Finds the play: by who wins each vertex in a ranking that is found good, and else by solving the game.
+/// Finds the play: by who wins each vertex in a ranking, where there is one, and else by solving the game.
 ///
 /// # Errors
 /// Those of the normal form, of the game, of the board and of the workers' table; E5, U4.
-pub(crate) fn find_play<U: Watcher, H: Runtime>(
-    rt: &H,
-    alloc: Global,
-    texts: Texts,
-    options: &Options,
-    watcher: &U,
-) -> Result<PlayFound, MuError>
-    ensures play { IfOk result (IsPlayFound options.now.priorities options.now.board) }
-    ensures texts { IfOk result (λ found. found.texts.value ≡ texts) }
-    ensures refusal { IfErr result (HasNoPlay options.now.priorities options.now.board texts.system.system (closed_formula texts.formula)) }
-{
-    let Texts { system, formula } = &texts;
-    let ranked = ranked_found(rt, alloc, system, formula, options, watcher);
-    play_by(rt, alloc, texts, ranked, options, watcher)
-}
-
-/// Finds the play by a ranking, where there is one, and else by solving the game.
-///
-/// # Errors
-/// Those of `find_play`.
 pub(crate) fn play_by<U: Watcher, H: Runtime>(
     rt: &H,
     alloc: Global,

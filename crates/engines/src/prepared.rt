@@ -1,6 +1,6 @@
 // What a check makes of its findings before it begins to write.
 
-ghost use Rattle.std.specs.Prelude.{◌≡◌, ◌<◌, IfOk, IfErr, IfSome, IsTrue, Some, option_map, slice_index_or, false};
+ghost use Rattle.std.specs.Prelude.{◌≡◌, ◌<◌, IfOk, IfErr, IfSome, IsTrue, option_map, slice_index_or, false};
 ghost use Rattle.std.specs.Arc.{arc_value};
 ghost use Rattle.std.specs.Option.{is_some};
 ghost use Rattle.engines.specs.declared.prepared.WitnessText.{WitnessText};
@@ -8,12 +8,12 @@ ghost use Rattle.calculus.specs.Closed.{closed_formula};
 ghost use Rattle.calculus.specs.Normal.{normal_nodes};
 ghost use Rattle.calculus.specs.Rules.{nodes_with};
 ghost use Rattle.calculus.specs.declared.priorities.Priorities.{Priorities};
-ghost use Rattle.engines.specs.Play.{IsPlay, IsPlayFound, IsUnshown};
-ghost use Rattle.engines.specs.Prepared.{ArePrepared, AreShown, IsUnprepared, IsWinning, outcome_of, outcome_played};
-ghost use Rattle.verdicts.specs.Findings.{AreFindings, IsPairOf, formula_found, system_of};
-ghost use Rattle.requests.specs.Report.{report_in};
+ghost use Rattle.engines.specs.Play.{IsPlay, IsUnshown};
+ghost use Rattle.engines.specs.Prepared.{AreBoth, ArePrepared, AreShown, IsUnprepared, IsWinning, Outcome, is_made, outcome_of};
+ghost use Rattle.verdicts.specs.Findings.{AreFindings, IsLeastFound, system_of};
+ghost use Rattle.workers.specs.declared.team.BoardKind.{BoardKind};
 
-use crate::play::{PlayFound, lasso};
+use crate::play::lasso;
 use calculus::form::Normal;
 use evidence::error::EvidenceError;
 use evidence::evidence::Evidence;
@@ -25,13 +25,13 @@ use laws::games::one_wins;
 use lts::{Memory, Transition};
 use measures::table::Settled;
 use requests::error::MuError;
-use requests::report::report_text;
-use requests::request::{Options, ReportForm, Wanted, WitnessForm};
+use requests::request::{Wanted, WitnessForm};
 use requests::texts::Texts;
 use std::alloc::{AllocError, Global};
 use verdicts::findings::{Findings, odd_evidence_found};
 use verdicts::lifting::SolvedGame;
 use verdicts::pairs::evidence_pair;
+use verdicts::proposing::LeastFound;
 use witness::part::witness;
 
 /// A witness, and the form in which it is written.
@@ -41,123 +41,104 @@ pub struct WitnessText {
     pub part: Vec<Transition>,
 }
 
-/// Which texts are wanted, and what is written of those that aren't found out by solving.
+/// The evidence of both players.
 #[derive(Drop)]
-pub struct Prepared {
-    pub wanted: Wanted,
-    pub pair: Option<EvidencePair>,
-    pub shown: Option<WitnessText>,
-    pub report: Vec<u8>,
+pub enum BothEvidence<'a> {
+    /// None is wanted.
+    Neither,
+    /// That of a game that is stored.
+    Made(EvidencePair),
+    /// What it is written from where no game is stored.
+    Least(&'a LeastFound),
 }
 
-/// Makes what is wanted.
+/// Which texts are wanted, and what is written before the report.
+#[derive(Drop)]
+pub struct Prepared<'a> {
+    pub wanted: Wanted,
+    pub game: Option<&'a Game>,
+    pub evidence: BothEvidence<'a>,
+    pub shown: Option<WitnessText>,
+}
+
+/// Makes what is wanted before the report of a game that is solved.
 ///
 /// # Errors
-/// E5 and U4 where memory runs out.
-pub(crate) fn prepare(alloc: Global, found: &Findings, wanted: Wanted) -> Result<Prepared, MuError>
-    requires { AreFindings found.now }
-    ensures prepared { IfOk result (ArePrepared (outcome_of found.now) (arc_value found.now.solution.game)) }
-    ensures wanted { IfOk result (λ prepared. prepared.wanted ≡ wanted) }
-    ensures refusal { IfErr result (IsUnprepared wanted) }
-{
-    let pair = pair_where(alloc, found, wanted.evidence)?;
-    prepare_beside(alloc, found, wanted, pair)
-}
-
-/// Makes what is wanted beside the evidence of both players.
-fn prepare_beside(
+/// E5, and U4 for a witness, where memory runs out.
+pub(crate) fn prepare<'a>(
     alloc: Global,
-    found: &Findings,
+    found: &'a Findings,
     wanted: Wanted,
-    pair: Option<EvidencePair>,
-) -> Result<Prepared, MuError>
-    requires found { AreFindings found.now }
-    requires pair { IfSome pair (IsPairOf (arc_value found.now.solution.game)) }
-    requires evidence { is_some pair ≡ wanted.evidence }
-
-    ensures prepared { IfOk result (ArePrepared (outcome_of found.now) (arc_value found.now.solution.game)) }
+) -> Result<Prepared<'a>, MuError>
+    requires { AreFindings found.now }
+    ensures prepared { IfOk result (ArePrepared (outcome_of found.now)) }
     ensures wanted { IfOk result (λ prepared. prepared.wanted ≡ wanted) }
-
     ensures refusal { IfErr result (IsUnprepared wanted) }
 {
-    let shown = shown_where(alloc, found, wanted.witness, &pair)?;
-    let report = report_of(alloc, found, wanted.report)?;
+    let evidence = pair_where(alloc, found, wanted.evidence)?;
+    let shown = shown_where(alloc, found, wanted.witness)?;
     Ok(Prepared {
         wanted,
-        pair,
+        game: game_where(&found.solution.game, wanted.game),
+        evidence,
         shown,
-        report,
     })
 }
 
-/// The report in the form that is wanted.
-fn report_of(alloc: Global, found: &Findings, form: ReportForm) -> Result<Vec<u8>, MuError>
-    requires { AreFindings found.now }
-    ensures text { IfOk result (λ text. text.items ≡ report_in form (system_of found.now) (formula_found found.now) found.now.marks.items) }
-    ensures refusal { IfErr result (λ e. e ≡ MuError.Memory) }
+/// The game, if it is wanted.
+pub(crate) fn game_where(game: &Game, wanted: bool) -> Option<&Game>
+    ensures wanted { is_some result ≡ wanted }
+    ensures game { IfSome result (λ g. g.now ≡ game.now) }
 {
-    let texts = &found.texts;
-    report_text(alloc, &texts.system, &texts.formula, &found.marks, form)
+    if wanted { Some(game) } else { None }
+}
+
+/// What evidence is written from, if the least measures are found.
+pub(crate) fn by_least(least: Option<&LeastFound>) -> BothEvidence<'_>
+    ensures made { is_made result ≡ is_some least.entry }
+    ensures both { (x : Outcome) (board : BoardKind)
+        → IfSome least.entry (λ found. IsLeastFound x.rule board x.texts.system.system (closed_formula x.texts.formula) found.now) → AreBoth x result }
+{
+    match least {
+        Some(found) => BothEvidence::Least(found),
+        None => BothEvidence::Neither,
+    }
 }
 
 /// The evidence of both players, if it is wanted.
-fn pair_where(
+fn pair_where<'a>(
     alloc: Global,
     found: &Findings,
     wanted: bool,
-) -> Result<Option<EvidencePair>, MuError>
+) -> Result<BothEvidence<'a>, MuError>
     requires { AreFindings found.now }
-    ensures pair { IfOk result (λ pair. IfSome pair (IsPairOf (arc_value found.now.solution.game))) }
-    ensures wanted { IfOk result (λ pair. is_some pair ≡ wanted) }
+    ensures both { IfOk result (AreBoth (outcome_of found.now)) }
+    ensures made { IfOk result (λ evidence. is_made evidence ≡ wanted) }
     ensures refusal { IfErr result (λ e. IsTrue wanted × (e ≡ MuError.Evidence EvidenceError.Memory)) }
 {
     if !wanted {
-        return Ok(None);
+        return Ok(BothEvidence::Neither);
     }
-    Ok(Some(evidence_pair(alloc, found)?))
+    Ok(BothEvidence::Made(evidence_pair(alloc, found)?))
 }
 
-/// A witness, if it is wanted, by what there is of evidence.
+/// A witness, if it is wanted.
 fn shown_where(
     alloc: Global,
     found: &Findings,
     form: Option<WitnessForm>,
-    pair: &Option<EvidencePair>,
 ) -> Result<Option<WitnessText>, MuError>
-    requires found { AreFindings found.now }
-    requires pair { IfSome pair.now (IsPairOf (arc_value found.now.solution.game)) }
-
+    requires { AreFindings found.now }
     ensures shown { IfOk result (λ shown. IfSome shown (λ x. AreShown found.now.solution.priorities found.now.texts.value x.part.items)) }
     ensures form { IfOk result (λ shown. option_map (λ (x : WitnessText). x.form) shown ≡ form) }
-
     ensures refusal { IfErr result (λ e. IsTrue (is_some form) × IsUnshown e) }
 {
     let Some(form) = form else {
         return Ok(None);
     };
-    let part = part_of(alloc, found, pair)?;
+    let evidence = winning_evidence(alloc, found)?;
+    let part = part_by(alloc, found, &evidence)?;
     Ok(Some(WitnessText { form, part }))
-}
-
-/// The transitions of a witness: of a play that goes one way from each vertex, where one is found, and else of that by the evidence of all that the
-/// winner wins.
-fn part_of(
-    alloc: Global,
-    found: &Findings,
-    pair: &Option<EvidencePair>,
-) -> Result<Vec<Transition>, MuError>
-    requires found { AreFindings found.now }
-    requires pair { IfSome pair.now (IsPairOf (arc_value found.now.solution.game)) }
-    ensures shown { IfOk result (λ part. AreShown found.now.solution.priorities found.now.texts.value part.items) }
-    ensures refusal { IfErr result IsUnshown }
-{
-    match pair {
-        Some(pair) => match one_way(alloc, found)? {
-            Some(evidence) => part_by(alloc, found, &evidence),
-            None => part_by(alloc, found, winners_in(found, pair)),
-        },
-        None => part_by(alloc, found, &winning_evidence(alloc, found)?),
-    }
 }
 
 /// Evidence of the winner: of a play that goes one way from each vertex, where one is found, and else of all that the winner wins.
@@ -200,23 +181,6 @@ fn even_marks(alloc: Global, game: &Game, settled: &Settled) -> Result<Vec<bool>
     Ok(marks)
 }
 
-/// The winner's of both players' evidence.
-fn winners_in<'a>(found: &Findings, pair: &'a EvidencePair) -> &'a Evidence
-    requires found { AreFindings found.now }
-    requires pair { IsPairOf (arc_value found.now.solution.game) pair.now }
-    ensures { IsWinning found.now result.now }
-{
-    one_wins();
-    found.solution.game.known();
-    pair.even.known();
-    pair.odd.known();
-    if initial_mark(found) {
-        &pair.even
-    } else {
-        &pair.odd
-    }
-}
-
 /// The evidence of the player who wins the initial state's vertex with the root node.
 pub(crate) fn winner_evidence(alloc: Global, found: &Findings) -> Result<Evidence, EvidenceError>
     requires { AreFindings found.now }
@@ -249,7 +213,7 @@ fn part_by(alloc: Global, found: &Findings, evidence: &Evidence) -> Result<Vec<T
 }
 
 /// The transitions that the play takes by evidence.
-fn part_of_play(
+pub(crate) fn part_of_play(
     alloc: Global,
     texts: &Texts,
     form: &Normal,
@@ -264,44 +228,8 @@ fn part_of_play(
     witness(alloc, &texts.system, form, game, evidence)
 }
 
-/// Makes what is wanted of a play, with a witness in this form, and without the evidence of both players.
-pub(crate) fn prepare_play(
-    alloc: Global,
-    found: &PlayFound,
-    options: &Options,
-    wanted: Wanted,
-    form: WitnessForm,
-) -> Result<Prepared, MuError>
-    requires found { IsPlayFound options.now.priorities options.now.board found.now }
-    requires evidence { wanted.evidence ≡ false }
-    requires form { wanted.witness ≡ Some form }
-
-    ensures prepared { IfOk result (ArePrepared (outcome_played options.now.priorities options.now.board found.now) (arc_value found.now.game)) }
-    ensures wanted { IfOk result (λ prepared. prepared.wanted ≡ wanted) }
-
-    ensures refusal { IfErr result (λ e. e ≡ MuError.Memory) }
-{
-    // For the proof alone: clauses name them.
-    let _ = options;
-    let PlayFound {
-        texts,
-        form: normal,
-        game,
-        evidence,
-        marks,
-    } = found;
-    let part = part_of_play(alloc, texts, normal, game, evidence)?;
-    let report = report_text(alloc, &texts.system, &texts.formula, marks, wanted.report)?;
-    Ok(Prepared {
-        wanted,
-        pair: None,
-        shown: Some(WitnessText { form, part }),
-        report,
-    })
-}
-
 /// Whether the initial state satisfies the formula.
-pub fn initial_mark(found: &Findings) -> bool
+fn initial_mark(found: &Findings) -> bool
     requires { AreFindings found.now }
     ensures inside { found.now.texts.value.system.system.initial < found.now.texts.value.system.system.states }
     ensures mark { result ≡ slice_index_or found.now.marks.items found.now.texts.value.system.system.initial false }

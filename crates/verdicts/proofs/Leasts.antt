@@ -2,12 +2,9 @@
 use Rattle.std.proofs.Common.{◌≡◌, ◌≢◌, ◌+◌, ◌*◌, ◌<◌, ◌≤◌, ℕ, Bool, true, false, not, true≢false, List, length, refl, subst, sym}
 use Rattle.std.specs.Prelude.{◌↔◌, IsTrue}
 use Rattle.systems.specs.System.{System}
-use Rattle.calculus.specs.Closed.{closed_formula}
 use Rattle.calculus.specs.Form.{IsForm}
 use Rattle.calculus.specs.Meaning.{MarksOf, marked}
 use Rattle.calculus.specs.Nodes.{Node}
-use Rattle.calculus.specs.Rules.{nodes_with}
-use Rattle.calculus.specs.declared.priorities.Priorities.{Priorities}
 use Rattle.game.specs.declared.player.Player.TheVariants.{Even}
 use Rattle.game.specs.Arena.{arena, place}
 use Rattle.game.specs.Wins.{Wins}
@@ -17,8 +14,6 @@ use Rattle.measures.specs.Measure.{Measure, Top}
 use Rattle.measures.specs.Progress.{value_at}
 use Rattle.measures.specs.StoredProposal.{values_of}
 use Rattle.measures.specs.declared.proposal.Proposals.{Proposals}
-use Rattle.requests.specs.declared.texts.Texts.{Texts}
-use Rattle.verdicts.specs.declared.findings.GameToSolve.{GameToSolve}
 use Rattle.verdicts.specs.Findings.{AreLeastOf}
 
 -- Even wins where the least measure isn't top.
@@ -40,11 +35,3 @@ won_mark lost m own e is = subst (λ (n : Measure). IsTrue (not lost) ↔ (n ≢
     by : (b : Bool) → (IsTrue b ↔ (own ≡ Top)) → IsTrue (not b) ↔ (own ≢ Top)
     by true h = ((λ f. absurd (true≢false (sym f))), (λ no. absurd (no (h.0 refl))))
     by false h = ((λ yes top. true≢false (sym (h.1 top))), (λ no. refl))
-
--- What is the least of texts is that of what is made of them.
-pub least_moved : (rule : Priorities) (texts : Texts) (posed : GameToSolve) (c : Proposals) → posed.priorities ≡ rule → posed.texts.value ≡ texts
-    → AreLeastOf texts.system.system (nodes_with rule (closed_formula texts.formula)) c
-    → AreLeastOf posed.texts.value.system.system (nodes_with posed.priorities (closed_formula posed.texts.value.formula)) c
-least_moved rule texts posed c by of least =
-    subst (λ (r : Priorities). AreLeastOf posed.texts.value.system.system (nodes_with r (closed_formula posed.texts.value.formula)) c) (sym by)
-    (subst (λ (t : Texts). AreLeastOf t.system.system (nodes_with rule (closed_formula t.formula)) c) (sym of) least)

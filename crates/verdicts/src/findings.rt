@@ -11,12 +11,12 @@ ghost use Rattle.evidence.specs.Evidence.{IsGood, has};
 ghost use Rattle.workers.specs.declared.team.BoardKind.{BoardKind};
 ghost use Rattle.requests.specs.Causes.{HaveCauses};
 ghost use Rattle.requests.specs.Check.{ByGame, AreSpelled, HasForm, RefusesCheck, IsBeyond};
-ghost use Rattle.verdicts.specs.Findings.{AreFindings, AreLeastOf, ArePosed, IsLeastFound, formula_found, system_of, way_in};
+ghost use Rattle.verdicts.specs.Findings.{AreFindings, AreLeastOf, ArePosed, formula_found, system_of, way_in};
 ghost use Rattle.requests.specs.Solver.{FitsBoard, IsUnsolved};
 ghost use Rattle.requests.specs.Writers.{AreKept, Lent};
 
 use crate::lifting::{SolvedGame, Winners, state_marks};
-use crate::proposing::{LeastFound, least_of};
+use crate::proposing::least_of;
 use calculus::form::Normal;
 use calculus::priorities::Priorities;
 use evidence::decide::certified_winners;
@@ -119,31 +119,6 @@ pub fn find_with<L: BuildHasher + Drop, R: Source + Drop, S: Source + Drop, T: G
     find_by_workers(rt, alloc, posed, options, gate)
 }
 
-/// Finds what `find_with` does, of texts that were read, and tells a watcher what is being built and lifted. Where the least measures of both players are
-/// found already, no worker lifts, however many there are.
-///
-/// # Errors
-/// Those of the normal form, of the game, of the board and of the workers' table; U4.
-pub fn find_in<O: Watcher, H: Runtime>(
-    rt: &H,
-    alloc: Global,
-    texts: Texts,
-    least: Option<LeastFound>,
-    options: &Options,
-    observer: &O,
-) -> Result<Findings, MuError>
-    requires { IfSome least (IsLeastFound options.now.priorities options.now.board texts.system.system (closed_formula texts.formula)) }
-
-    ensures found { IfOk result AreFindings }
-    ensures way { IfOk result (λ found. way_in found ≡ ByGame options.now.priorities (Some options.now.board)) }
-    ensures texts { IfOk result (λ found. found.texts.value ≡ texts) }
-
-    ensures refusal { IfErr result (IsBeyond (ByGame options.now.priorities (Some options.now.board)) texts.system.system (closed_formula texts.formula)) }
-{
-    let texts = boxed(alloc, texts)?;
-    find_boxed(rt, alloc, texts, least, options, observer)
-}
-
 /// The value in a box.
 pub fn boxed<T: Drop>(alloc: Global, value: T) -> Result<Box<T>, Memory>
     ensures { IfOk result (λ held. held.value ≡ value) }
@@ -151,60 +126,10 @@ pub fn boxed<T: Drop>(alloc: Global, value: T) -> Result<Box<T>, Memory>
     Ok(Box::new(alloc, value)?)
 }
 
-fn find_boxed<O: Watcher, H: Runtime>(
-    rt: &H,
-    alloc: Global,
-    texts: Box<Texts>,
-    least: Option<LeastFound>,
-    options: &Options,
-    observer: &O,
-) -> Result<Findings, MuError>
-    requires { IfSome least (IsLeastFound options.now.priorities options.now.board texts.value.system.system (closed_formula texts.value.formula)) }
-
-    ensures found { IfOk result AreFindings }
-    ensures way { IfOk result (λ found. way_in found ≡ ByGame options.now.priorities (Some options.now.board)) }
-    ensures texts { IfOk result (λ found. found.texts.value ≡ texts.value) }
-
-    ensures refusal { IfErr result (IsBeyond (ByGame options.now.priorities (Some options.now.board)) texts.value.system.system
-        (closed_formula texts.value.formula)) }
-{
-    match least {
-        Some(least) => find_by_least(rt, alloc, texts, least, options, observer),
-        None => find_by_game(rt, alloc, texts, options, observer),
-    }
-}
-
-/// What is found out of these texts, whose least measures are known.
-fn find_by_least<O: Watcher, H: Runtime>(
-    rt: &H,
-    alloc: Global,
-    texts: Box<Texts>,
-    least: LeastFound,
-    options: &Options,
-    observer: &O,
-) -> Result<Findings, MuError>
-    requires { IsLeastFound options.now.priorities options.now.board texts.value.system.system (closed_formula texts.value.formula) least }
-
-    ensures found { IfOk result AreFindings }
-    ensures way { IfOk result (λ found. way_in found ≡ ByGame options.now.priorities (Some options.now.board)) }
-    ensures texts { IfOk result (λ found. found.texts.value ≡ texts.value) }
-
-    ensures refusal { IfErr result (IsBeyond (ByGame options.now.priorities (Some options.now.board)) texts.value.system.system
-        (closed_formula texts.value.formula)) }
-{
-    let LeastFound {
-        form,
-        proposals,
-        ..
-    } = least;
-    let posed = build_with(rt, alloc, texts, options.priorities, form, observer)?;
-    find_least(alloc, posed, options, proposals)
-}
-
-/// What is found out of these texts by solving their game.
+/// What is found out of these texts by solving their game, over the board that the options ask for. An observer is told what is being built and lifted.
 ///
 /// # Errors
-/// Those of `find_in`.
+/// Those of the normal form, of the game, of the board and of the workers' table; U4.
 pub fn find_by_game<O: Watcher, H: Runtime>(
     rt: &H,
     alloc: Global,

@@ -49,7 +49,7 @@ pub fn game_marks<O: Observer + Sync, H: Runtime>(
 {
     match ranked_marks(rt, alloc, system, formula, options, observer) {
         Some(marks) => Ok(marks),
-        None => Ok(with_game(rt, alloc, system, formula, None, options, observer)?.marks),
+        None => Ok(marked_game(rt, alloc, system, formula, None, options, observer)?.marks),
     }
 }
 
@@ -60,30 +60,11 @@ pub struct MarkedGame {
     pub marks: Vec<bool>,
 }
 
-/// The game, which is stored, with a mark for each state: by a ranking, where one that is guessed is good.
-///
-/// # Errors
-/// Those of `game_marks`.
-pub fn marked_game<O: Observer + Sync, H: Runtime>(
-    rt: &H,
-    alloc: Global,
-    system: &Lts,
-    formula: &Closed,
-    options: &Options,
-    observer: &O,
-) -> Result<MarkedGame, MuError>
-    ensures { let l = system.now.system in let f = closed_formula formula.now in let way = ByGame options.now.priorities (Some options.now.board) in
-        MatchResult result (IsMarkedGame options.now.priorities options.now.board l f) (IsBeyond way l f) }
-{
-    let ranked = ranked_marks(rt, alloc, system, formula, options, observer);
-    with_game(rt, alloc, system, formula, ranked, options, observer)
-}
-
 /// The game, which is stored, with these marks, or with those that are found in it.
 ///
 /// # Errors
 /// Those of `game_marks`.
-fn with_game<O: Observer + Sync, H: Runtime>(
+pub fn marked_game<O: Observer + Sync, H: Runtime>(
     rt: &H,
     alloc: Global,
     system: &Lts,

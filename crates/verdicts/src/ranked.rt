@@ -87,7 +87,7 @@ pub fn ranked_found<O: Observer, H: Threads + Sync>(
 }
 
 /// A mark for each state, true where it satisfies the formula, by the ranking of `ranked_found`.
-pub(crate) fn ranked_marks<O: Observer, H: Threads + Sync>(
+pub fn ranked_marks<O: Observer, H: Threads + Sync>(
     rt: &H,
     alloc: Global,
     system: &Lts,
