@@ -32,9 +32,6 @@ value_rule name = record (new_rule name) { long = Some name; action = Some actio
 abbrev pub range_rule : Text → (least most : ℕ) → Rule
 range_rule name least most = record (value_rule name) { parser = Some (value_parser.Signed (pos least) (pos most)) }
 
-abbrev pub number_rule : Text → (most : ℕ) → Rule
-number_rule name most = range_rule name 1 most
-
 -- names of which one is chosen
 abbrev pub Choice : Type 0
 Choice = Bor (List (Bor Text))
@@ -43,58 +40,30 @@ Choice = Bor (List (Bor Text))
 abbrev pub choice_rule : Text → Choice → Rule
 choice_rule name choice = record (value_rule name) { parser = Some (value_parser.Names choice) }
 
--- `--quiet`, or `-q`
-abbrev pub quiet_rule : Rule
-quiet_rule = record (flag_rule (codes "quiet")) { short = Some 113 }
-
--- `--states` with an answer, and at most how many
-abbrev pub states_rule : (answers : Choice) → Rule
-states_rule answers = choice_rule (codes "states") answers
-
-abbrev pub limit_rule : Rule
-limit_rule = number_rule (codes "limit") 4294967295
-
--- how many lines of a play are told at most, or 0
-abbrev pub lines_rule : Rule
-lines_rule = range_rule (codes "limit") 0 4294967295
-
--- in which form the report is written
-abbrev pub report_rules : (answers : Choice) → List Rule
-report_rules answers = quiet_rule ∷ flag_rule (codes "summary") ∷ states_rule answers ∷ limit_rule ∷ []
-
--- how many workers lift, how many locks their board has, and which board it is
+-- how many workers lift
 abbrev pub workers_rule : Rule
-workers_rule = number_rule (codes "workers") 64
+workers_rule = range_rule (codes "workers") 1 64
 
-abbrev pub shards_rule : Rule
-shards_rule = number_rule (codes "shards") 256
-
-abbrev pub board_rule : (boards : Choice) → Rule
-board_rule boards = choice_rule (codes "board") boards
-
+-- that, how many locks their board has, and which board it is
 abbrev pub lifting_rules : (boards : Choice) → List Rule
-lifting_rules boards = workers_rule ∷ shards_rule ∷ board_rule boards ∷ []
-
--- where the evidence goes
-abbrev pub evidence_rule : Rule
-evidence_rule = value_rule (codes "evidence")
-
--- where the game, the evidence and the witness go
-abbrev pub output_rules : List Rule
-output_rules = value_rule (codes "game") ∷ evidence_rule ∷ value_rule (codes "witness") ∷ []
+lifting_rules boards = workers_rule ∷ range_rule (codes "shards") 1 256 ∷ choice_rule (codes "board") boards ∷ []
 
 -- the rule of priorities
 abbrev pub priorities_rule : (rules : Choice) → Rule
 priorities_rule rules = choice_rule (codes "priorities") rules
 
+-- the game, the evidence and the witness go to files
 abbrev pub check_rules : (rules boards answers : Choice) → List Rule
 check_rules rules boards answers =
     text_rules ++ (flag_rule (codes "plain") ∷ flag_rule (codes "strict") ∷ flag_rule (codes "stats")
-    ∷ (report_rules answers ++ (priorities_rule rules ∷ (lifting_rules boards ++ output_rules))))
+    ∷ record (flag_rule (codes "quiet")) { short = Some 113 } ∷ flag_rule (codes "summary") ∷ choice_rule (codes "states") answers
+    ∷ range_rule (codes "limit") 1 4294967295 ∷ priorities_rule rules
+    ∷ (lifting_rules boards ++ (value_rule (codes "game") ∷ value_rule (codes "evidence") ∷ value_rule (codes "witness") ∷ [])))
 
+-- of the lines of a play 0 tells all
 abbrev pub why_rules : (rules boards : Choice) → List Rule
 why_rules rules boards =
-    text_rules ++ (flag_rule (codes "strict") ∷ lines_rule ∷ priorities_rule rules ∷ lifting_rules boards)
+    text_rules ++ (flag_rule (codes "strict") ∷ range_rule (codes "limit") 0 4294967295 ∷ priorities_rule rules ∷ lifting_rules boards)
 
 abbrev pub table_rules : (rules boards : Choice) → List Rule
 table_rules rules boards =
@@ -108,7 +77,7 @@ abbrev pub normal_rules : (rules : Choice) → List Rule
 normal_rules rules = file_rule (codes "FORMULA") ∷ priorities_rule rules ∷ []
 
 abbrev pub solve_rules : (boards : Choice) → List Rule
-solve_rules boards = file_rule (codes "GAME") ∷ evidence_rule ∷ flag_rule (codes "stats") ∷ lifting_rules boards
+solve_rules boards = file_rule (codes "GAME") ∷ value_rule (codes "evidence") ∷ flag_rule (codes "stats") ∷ lifting_rules boards
 
 abbrev pub verify_rules : List Rule
 verify_rules = file_rule (codes "GAME") ∷ file_rule (codes "EVIDENCE") ∷ new_rule (codes "OTHER") ∷ []

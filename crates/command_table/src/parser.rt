@@ -1,38 +1,26 @@
 // The command lines that are read, as `clap` is told of them.
 
-ghost use Rattle.std.specs.Prelude.{IfOk, IsOkAnd, codes};
+ghost use Rattle.std.specs.Prelude.{IfOk, IsOkAnd, Some, codes};
 ghost use Rattle.clap.specs.Words.{AddsArg, AddsSubcommand, app_of, new_app};
 ghost use Rattle.command_table.specs.Table.{
   IsCommandTable,
-  board_rule,
   check_rules,
-  evidence_rule,
+  choice_rule,
   explain_rules,
   file_rule,
-  files_rule,
   flag_rule,
   help_rules,
   labels_rules,
   lifting_rules,
-  limit_rule,
-  lines_rule,
   normal_rules,
-  output_rules,
-  quiet_rule,
-  priorities_rule,
   replay_rules,
-  report_rules,
-  shards_rule,
   solve_rules,
-  states_rule,
   table_rules,
-  text_rules,
   value_rule,
   verify_rules,
   why_rules,
-  workers_rule,
 };
-ghost use Rattle.command_table.specs.Parsers.{AddsRules, HasRule, ReadsBy, command_app};
+ghost use Rattle.command_table.specs.Parsers.{AddsRules, HasRule, ReadsBy, command_app, within};
 
 use clap::builder::ValueParser;
 use clap::{Arg, ArgAction, Command as Parser};
@@ -81,6 +69,9 @@ pub const SUMMARY: &str = "summary";
 pub const STATES: &str = "states";
 
 pub const LIMIT: &str = "limit";
+
+/// The greatest number that an option takes.
+const MOST: i64 = 4_294_967_295;
 
 static BOARDS: [&str; 3] = ["auto", "locked", "packed"];
 
@@ -220,7 +211,7 @@ const RULES_HELP: &str = "The rule by which fixpoints get their priorities: nest
 
 const GAME_FILE_HELP: &str = "Write the parity game to this file, in the format of PGSolver";
 
-const EVIDENCE_FILES_HELP: &str =
+const PATH_HELP: &str =
     "Write the evidence of both players to PATH.even and PATH.odd, which verify checks";
 
 const WITNESS_FILE_HELP: &str =
@@ -315,14 +306,23 @@ fn check_parser<'a>(
     ensures { IfOk result (ReadsBy (command_app (codes "check") (check_rules rules.entry boards.entry answers.entry))) }
 {
     let parser = Ok(described(alloc, "check", CHECK_ABOUT, CHECK_AFTER));
-    let parser = with_texts(alloc, parser);
+    let parser = with_arg(parser, file(alloc, SYSTEM, SYSTEM_HELP));
+    let parser = with_arg(parser, file(alloc, FORMULA, FORMULA_HELP));
     let parser = with_arg(parser, flag(alloc, PLAIN, PLAIN_HELP));
     let parser = with_arg(parser, flag(alloc, STRICT, STRICT_HELP));
     let parser = with_arg(parser, flag(alloc, STATS, STATS_HELP));
-    let parser = with_report(alloc, parser, answers);
-    let parser = with_arg(parser, rule(alloc, rules));
+    let parser = with_arg(parser, flag(alloc, QUIET, QUIET_HELP).short('q'));
+    let parser = with_arg(parser, flag(alloc, SUMMARY, SUMMARY_HELP));
+    let states = choice(alloc, STATES, "ANSWER", STATES_HELP, answers);
+    let parser = with_arg(parser, states);
+    let limit = number(alloc, LIMIT, "NUMBER", LIMIT_HELP, 1, MOST);
+    let parser = with_arg(parser, limit);
+    let parser = with_arg(parser, choice(alloc, PRIORITIES, "RULE", RULES_HELP, rules));
     let parser = with_workers(alloc, parser, boards);
-    with_outputs(alloc, parser)
+    let parser = with_arg(parser, valued(alloc, GAME_FILE, "FILE", GAME_FILE_HELP));
+    let parser = with_arg(parser, valued(alloc, EVIDENCE_FILES, "PATH", PATH_HELP));
+    let witness = valued(alloc, WITNESS_FILE, "FILE", WITNESS_FILE_HELP);
+    with_arg(parser, witness)
 }
 
 fn why_parser<'a>(
@@ -333,10 +333,12 @@ fn why_parser<'a>(
     ensures { IfOk result (ReadsBy (command_app (codes "why") (why_rules rules.entry boards.entry))) }
 {
     let parser = Ok(described(alloc, "why", WHY_ABOUT, WHY_AFTER));
-    let parser = with_texts(alloc, parser);
+    let parser = with_arg(parser, file(alloc, SYSTEM, SYSTEM_HELP));
+    let parser = with_arg(parser, file(alloc, FORMULA, FORMULA_HELP));
     let parser = with_arg(parser, flag(alloc, STRICT, STRICT_HELP));
-    let parser = with_arg(parser, lines(alloc));
-    let parser = with_arg(parser, rule(alloc, rules));
+    let limit = number(alloc, LIMIT, "NUMBER", LINES_HELP, 0, MOST);
+    let parser = with_arg(parser, limit);
+    let parser = with_arg(parser, choice(alloc, PRIORITIES, "RULE", RULES_HELP, rules));
     with_workers(alloc, parser, boards)
 }
 
@@ -349,11 +351,11 @@ fn table_parser<'a>(
 {
     let parser = Ok(described(alloc, "table", TABLE_ABOUT, TABLE_AFTER));
     let parser = with_arg(parser, file(alloc, SYSTEM, SYSTEM_HELP));
-    let parser = with_arg(parser, files(alloc, FORMULA, FORMULAS_HELP));
+    let parser = with_arg(parser, file(alloc, FORMULA, FORMULAS_HELP).num_args(1..));
     let parser = with_arg(parser, flag(alloc, PLAIN, PLAIN_HELP));
     let parser = with_arg(parser, flag(alloc, STRICT, STRICT_HELP));
     let parser = with_arg(parser, flag(alloc, STATS, STATS_HELP));
-    let parser = with_arg(parser, rule(alloc, rules));
+    let parser = with_arg(parser, choice(alloc, PRIORITIES, "RULE", RULES_HELP, rules));
     with_workers(alloc, parser, boards)
 }
 
@@ -370,7 +372,7 @@ fn normal_parser<'a>(alloc: Global, rules: &'a [&'a str]) -> Result<Parser<'a>, 
 {
     let parser = Ok(described(alloc, "normal", NORMAL_ABOUT, NORMAL_AFTER));
     let parser = with_arg(parser, file(alloc, FORMULA, FORMULA_HELP));
-    with_arg(parser, rule(alloc, rules))
+    with_arg(parser, choice(alloc, PRIORITIES, "RULE", RULES_HELP, rules))
 }
 
 fn solve_parser<'a>(alloc: Global, boards: &'a [&'a str]) -> Result<Parser<'a>, AllocError>
@@ -378,7 +380,7 @@ fn solve_parser<'a>(alloc: Global, boards: &'a [&'a str]) -> Result<Parser<'a>, 
 {
     let parser = Ok(described(alloc, "solve", SOLVE_ABOUT, SOLVE_AFTER));
     let parser = with_arg(parser, file(alloc, GAME, GAME_HELP));
-    let parser = with_arg(parser, evidence_files(alloc));
+    let parser = with_arg(parser, valued(alloc, EVIDENCE_FILES, "PATH", PATH_HELP));
     let parser = with_arg(parser, flag(alloc, STATS, STATS_HELP));
     with_workers(alloc, parser, boards)
 }
@@ -396,9 +398,11 @@ fn replay_parser<'a>(alloc: Global) -> Result<Parser<'a>, AllocError>
     ensures { IfOk result (ReadsBy (command_app (codes "replay") replay_rules)) }
 {
     let parser = Ok(described(alloc, "replay", REPLAY_ABOUT, REPLAY_AFTER));
-    let parser = with_texts(alloc, parser);
+    let parser = with_arg(parser, file(alloc, SYSTEM, SYSTEM_HELP));
+    let parser = with_arg(parser, file(alloc, FORMULA, FORMULA_HELP));
     let parser = with_arg(parser, file(alloc, SCHEDULE, SCHEDULE_HELP));
-    with_arg(parser, workers(alloc, SEATS_HELP))
+    let workers = number(alloc, WORKERS, "1 to 64", SEATS_HELP, 1, 64);
+    with_arg(parser, workers)
 }
 
 fn explain_parser<'a>(alloc: Global) -> Result<Parser<'a>, AllocError>
@@ -410,9 +414,8 @@ fn explain_parser<'a>(alloc: Global) -> Result<Parser<'a>, AllocError>
 fn help_parser<'a>(alloc: Global) -> Result<Parser<'a>, AllocError>
     ensures { IfOk result (ReadsBy (command_app (codes "help") help_rules)) }
 {
-    described(alloc, "help", HELP_ABOUT, HELP_AFTER).arg(Arg::new(alloc, COMMAND).help(
-        COMMAND_HELP,
-    ))
+    let command = Arg::new(alloc, COMMAND).help(COMMAND_HELP);
+    described(alloc, "help", HELP_ABOUT, HELP_AFTER).arg(command)
 }
 
 /// A file, or another word that has to stand, by its place among the words.
@@ -420,13 +423,6 @@ fn file<'a>(alloc: Global, id: &'a str, help: &'a str) -> Arg<'a>
     ensures { HasRule (file_rule id.now) result }
 {
     Arg::new(alloc, id).required(true).help(help)
-}
-
-/// Files, by their place among the words: one at least.
-fn files<'a>(alloc: Global, id: &'a str, help: &'a str) -> Arg<'a>
-    ensures { HasRule (files_rule id.now) result }
-{
-    file(alloc, id, help).num_args(1..)
 }
 
 /// An option without a value.
@@ -439,113 +435,43 @@ fn flag<'a>(alloc: Global, name: &'a str, help: &'a str) -> Arg<'a>
         .help(help)
 }
 
-/// `--quiet`, or `-q`.
-fn quiet<'a>(alloc: Global) -> Arg<'a>
-    ensures { HasRule quiet_rule result }
-{
-    flag(alloc, QUIET, QUIET_HELP).short('q')
-}
-
 /// An option that has a value.
-fn option_with_value<'a>(alloc: Global, name: &'a str, value: &'a str) -> Arg<'a>
+fn valued<'a>(alloc: Global, name: &'a str, value: &'a str, help: &'a str) -> Arg<'a>
     ensures { HasRule (value_rule name.now) result }
 {
     Arg::new(alloc, name)
         .long(name)
         .value_name(value)
         .action(ArgAction::Set)
-}
-
-fn rule<'a>(alloc: Global, names: &'a [&'a str]) -> Arg<'a>
-    ensures { HasRule (priorities_rule names.entry) result }
-{
-    option_with_value(alloc, PRIORITIES, "RULE")
-        .value_parser(ValueParser::from(names))
-        .help(RULES_HELP)
-}
-
-fn workers<'a>(alloc: Global, help: &'a str) -> Arg<'a>
-    ensures { HasRule workers_rule result }
-{
-    let numbers = clap::value_parser!(u32).range(1..=64);
-    option_with_value(alloc, WORKERS, "1 to 64")
-        .value_parser(numbers)
         .help(help)
 }
 
-fn shards<'a>(alloc: Global) -> Arg<'a>
-    ensures { HasRule shards_rule result }
-{
-    let numbers = clap::value_parser!(u32).range(1..=256);
-    option_with_value(alloc, SHARDS, "1 to 256")
-        .value_parser(numbers)
-        .help(SHARDS_HELP)
-}
-
-fn board<'a>(alloc: Global, names: &'a [&'a str]) -> Arg<'a>
-    ensures { HasRule (board_rule names.entry) result }
-{
-    option_with_value(alloc, BOARD, "KIND")
-        .value_parser(ValueParser::from(names))
-        .help(BOARD_HELP)
-}
-
-fn states<'a>(alloc: Global, names: &'a [&'a str]) -> Arg<'a>
-    ensures { HasRule (states_rule names.entry) result }
-{
-    option_with_value(alloc, STATES, "ANSWER")
-        .value_parser(ValueParser::from(names))
-        .help(STATES_HELP)
-}
-
-fn limit<'a>(alloc: Global) -> Arg<'a>
-    ensures { HasRule limit_rule result }
-{
-    let numbers = clap::value_parser!(u32).range(1..=4_294_967_295);
-    option_with_value(alloc, LIMIT, "NUMBER")
-        .value_parser(numbers)
-        .help(LIMIT_HELP)
-}
-
-fn lines<'a>(alloc: Global) -> Arg<'a>
-    ensures { HasRule lines_rule result }
-{
-    let numbers = clap::value_parser!(u32).range(0..=4_294_967_295);
-    option_with_value(alloc, LIMIT, "NUMBER")
-        .value_parser(numbers)
-        .help(LINES_HELP)
-}
-
-/// `--evidence PATH`.
-fn evidence_files<'a>(alloc: Global) -> Arg<'a>
-    ensures { HasRule evidence_rule result }
-{
-    option_with_value(alloc, EVIDENCE_FILES, "PATH").help(EVIDENCE_FILES_HELP)
-}
-
-/// The files of a system and a formula.
-fn with_texts<'a>(
+/// An option whose value is one of these names.
+fn choice<'a>(
     alloc: Global,
-    parser: Result<Parser<'a>, AllocError>,
-) -> Result<Parser<'a>, AllocError>
-    ensures { IfOk result (λ new. IsOkAnd parser.entry (λ old. AddsRules old text_rules new)) }
+    name: &'a str,
+    value: &'a str,
+    help: &'a str,
+    names: &'a [&'a str],
+) -> Arg<'a>
+    ensures { HasRule (choice_rule name.now names.entry) result }
 {
-    let parser = with_arg(parser, file(alloc, SYSTEM, SYSTEM_HELP));
-    with_arg(parser, file(alloc, FORMULA, FORMULA_HELP))
+    valued(alloc, name, value, help).value_parser(ValueParser::from(names))
 }
 
-/// In which form the report is written.
-fn with_report<'a>(
+/// An option whose value is a number from this one to that one.
+fn number<'a>(
     alloc: Global,
-    parser: Result<Parser<'a>, AllocError>,
-    answers: &'a [&'a str],
-) -> Result<Parser<'a>, AllocError>
-    ensures { IfOk result (λ new. IsOkAnd parser.entry (λ old. AddsRules old (report_rules answers.entry) new)) }
+    name: &'a str,
+    value: &'a str,
+    help: &'a str,
+    least: i64,
+    most: i64,
+) -> Arg<'a>
+    ensures { HasRule (record (value_rule name.now) { parser = Some (within least most) }) result }
 {
-    let parser = with_arg(parser, quiet(alloc));
-    let parser = with_arg(parser, flag(alloc, SUMMARY, SUMMARY_HELP));
-    let parser = with_arg(parser, states(alloc, answers));
-    with_arg(parser, limit(alloc))
+    let numbers = clap::value_parser!(u32).range(least..=most);
+    valued(alloc, name, value, help).value_parser(numbers)
 }
 
 /// Workers, shards and board.
@@ -556,25 +482,9 @@ fn with_workers<'a>(
 ) -> Result<Parser<'a>, AllocError>
     ensures { IfOk result (λ new. IsOkAnd parser.entry (λ old. AddsRules old (lifting_rules boards.entry) new)) }
 {
-    let parser = with_arg(parser, workers(alloc, WORKERS_HELP));
-    let parser = with_arg(parser, shards(alloc));
-    with_arg(parser, board(alloc, boards))
-}
-
-/// Where the game, the evidence and the witness go.
-fn with_outputs<'a>(
-    alloc: Global,
-    parser: Result<Parser<'a>, AllocError>,
-) -> Result<Parser<'a>, AllocError>
-    ensures { IfOk result (λ new. IsOkAnd parser.entry (λ old. AddsRules old output_rules new)) }
-{
-    let parser = with_arg(
-        parser,
-        option_with_value(alloc, GAME_FILE, "FILE").help(GAME_FILE_HELP),
-    );
-    let parser = with_arg(parser, evidence_files(alloc));
-    with_arg(
-        parser,
-        option_with_value(alloc, WITNESS_FILE, "FILE").help(WITNESS_FILE_HELP),
-    )
+    let workers = number(alloc, WORKERS, "1 to 64", WORKERS_HELP, 1, 64);
+    let parser = with_arg(parser, workers);
+    let shards = number(alloc, SHARDS, "1 to 256", SHARDS_HELP, 1, 256);
+    let parser = with_arg(parser, shards);
+    with_arg(parser, choice(alloc, BOARD, "KIND", BOARD_HELP, boards))
 }

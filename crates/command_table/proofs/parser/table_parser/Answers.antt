@@ -1,14 +1,14 @@
 use Rattle.std.proofs.Common.{Ok}
 use Rattle.command_table.specs.Table.{lifting_rules}
-use Rattle.command_table.proofs.Tables.{adds_rule_if_ok, adds_rules_if_ok}
+use Rattle.command_table.proofs.Tables.{adds_rule_if_ok, adds_rules_if_ok, ranged}
 use Rattle.command_table.proofs.parser.table_parser.Goals as goal
 
 pub returns : goal.returns
 returns c =
     let system = adds_rule_if_ok (Ok c.described.result) _ _ _ _ c.with_arg-parser.ensures c.file.ensures c.described.ensures in
-    let formulas = adds_rule_if_ok _ _ _ _ _ c.with_arg-parser-2.ensures c.files.ensures system in
+    let formulas = adds_rule_if_ok _ _ _ _ _ c.with_arg-parser-2.ensures (ranged _ _ _ _ c.num_args.ensures.0 c.num_args.ensures.1 c.file-2.ensures) system in
     let plain = adds_rule_if_ok _ _ _ _ _ c.with_arg-parser-3.ensures c.flag.ensures formulas in
     let strict = adds_rule_if_ok _ _ _ _ _ c.with_arg-parser-4.ensures c.flag-2.ensures plain in
     let stats = adds_rule_if_ok _ _ _ _ _ c.with_arg-parser-5.ensures c.flag-3.ensures strict in
-    let rule = adds_rule_if_ok _ _ _ _ _ c.with_arg-parser-6.ensures c.rule.ensures stats in
+    let rule = adds_rule_if_ok _ _ _ _ _ c.with_arg-parser-6.ensures c.choice.ensures stats in
     adds_rules_if_ok _ _ _ (lifting_rules c.args.boards) c.with_workers.ensures rule

@@ -1,12 +1,13 @@
 use Rattle.std.proofs.Common.{Ok}
-use Rattle.command_table.specs.Table.{lifting_rules, text_rules}
+use Rattle.command_table.specs.Table.{lifting_rules}
 use Rattle.command_table.proofs.Tables.{adds_rule_if_ok, adds_rules_if_ok}
 use Rattle.command_table.proofs.parser.why_parser.Goals as goal
 
 pub returns : goal.returns
 returns c =
-    let files = adds_rules_if_ok (Ok c.described.result) _ _ text_rules c.with_texts-parser.ensures c.described.ensures in
-    let strict = adds_rule_if_ok _ _ _ _ _ c.with_arg-parser.ensures c.flag.ensures files in
-    let lines = adds_rule_if_ok _ _ _ _ _ c.with_arg-parser-2.ensures c.lines.ensures strict in
-    let rule = adds_rule_if_ok _ _ _ _ _ c.with_arg-parser-3.ensures c.rule.ensures lines in
+    let system = adds_rule_if_ok (Ok c.described.result) _ _ _ _ c.with_arg-parser.ensures c.file.ensures c.described.ensures in
+    let formula = adds_rule_if_ok _ _ _ _ _ c.with_arg-parser-2.ensures c.file-2.ensures system in
+    let strict = adds_rule_if_ok _ _ _ _ _ c.with_arg-parser-3.ensures c.flag.ensures formula in
+    let limit = adds_rule_if_ok _ _ _ _ _ c.with_arg-parser-4.ensures c.number-limit.ensures strict in
+    let rule = adds_rule_if_ok _ _ _ _ _ c.with_arg-parser-5.ensures c.choice.ensures limit in
     adds_rules_if_ok _ _ _ (lifting_rules c.args.boards) c.with_workers.ensures rule

@@ -1,9 +1,0 @@
-use Rattle.std.proofs.Common.{ap, ◌∙◌}
-use Rattle.std.specs.Prelude.{Some}
-use Rattle.command_table.proofs.Tables.{helped, parses}
-use Rattle.command_table.proofs.parser.states.Goals as goal
-
-pub returns : goal.returns
-returns c =
-    let given = c.value_parser.ensures.given in
-    helped _ _ _ _ c.help.ensures (parses _ _ _ _ c.value_parser.ensures.others (given.1 ∙ ap Some (given.2 ∙ c.from.ensures)) c.option_with_value.ensures)
