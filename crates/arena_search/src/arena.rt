@@ -1,9 +1,10 @@
 // The nodes of a normal form at the states of a system.
 
-use crate::edges::{Edges, Kinds};
-use crate::search::Vertex;
+use crate::edges::{Kinds, edges_forth};
+use crate::part::NodeComponent;
+use crate::table::Rows;
 use calculus::form::Normal;
-use calculus::node::Kind;
+use calculus::node::{Kind, Node};
 use game::limits::MOST_VERTICES;
 use game::list::List;
 use std::alloc::Global;
@@ -15,9 +16,10 @@ pub(crate) const NONE: usize = NO_CHILD as usize;
 const NO_CHILD: u32 = u32::MAX;
 
 /// What a node is, but for its owner.
-#[derive(Clone, Copy, PartialEq, Eq)]
+#[derive(Clone, Copy, Default, PartialEq, Eq)]
 pub(crate) enum SearchNodeKind {
     /// Of two children at the same state, or of none.
+    #[default]
     Junction,
     /// Of one child, at successors.
     Modality,
@@ -26,7 +28,7 @@ pub(crate) enum SearchNodeKind {
 }
 
 /// A node with its children. One that has a single child has it twice, and a variable has its binder.
-#[derive(Clone, Copy)]
+#[derive(Clone, Copy, Default)]
 pub(crate) struct SearchNode {
     pub(crate) number: usize,
     pub(crate) shape: SearchNodeKind,
@@ -43,22 +45,9 @@ pub(crate) struct SearchNode {
     pub(crate) height: u32,
 }
 
-// No node that is of use.
-const NOTHING: SearchNode = SearchNode {
-    number: NONE,
-    shape: SearchNodeKind::Junction,
-    is_odds: false,
-    priority: 0,
-    first: NONE,
-    second: NONE,
-    mask: 0,
-    root: NONE,
-    height: 0,
-};
-
 impl SearchNode {
-    fn of(kind: &Kind) -> Self {
-        let (shape, is_odds, first, second) = match kind {
+    fn of(number: usize, node: &Node, mask: u64) -> Self {
+        let (shape, is_odds, first, second) = match &node.kind {
             Kind::True => (SearchNodeKind::Junction, true, NO_CHILD, NO_CHILD),
             Kind::False => (SearchNodeKind::Junction, false, NO_CHILD, NO_CHILD),
             Kind::And(left, right) => (SearchNodeKind::Junction, true, *left, *right),
@@ -69,29 +58,22 @@ impl SearchNode {
             Kind::Var(binder) => (SearchNodeKind::Variable, false, *binder, *binder),
         };
         SearchNode {
+            number,
             shape,
             is_odds,
+            priority: node.priority,
             first: first as usize,
             second: second as usize,
-            ..NOTHING
+            mask,
+            root: number,
+            height: 0,
         }
     }
 
-    /// The node at a state.
-    #[inline(always)]
-    pub(crate) fn at(&self, state: usize) -> Vertex {
-        Vertex {
-            node: self.number,
-            state,
-        }
-    }
-
-    #[inline(always)]
     pub(crate) fn is_modal(&self) -> bool {
         self.shape == SearchNodeKind::Modality
     }
 
-    #[inline(always)]
     pub(crate) fn is_binder(&self) -> bool {
         self.shape == SearchNodeKind::Binder
     }
@@ -103,11 +85,15 @@ pub(crate) struct Arena {
     pub(crate) states: usize,
     /// Whether the least measures are wanted, and not only some.
     pub(crate) is_exact: bool,
-    pub(crate) forth: Edges,
-    nodes: List<SearchNode>,
-    // For each node where the list of those that have it for a child starts.
-    starts: List<usize>,
-    parents: List<usize>,
+    pub(crate) forth: Rows<u32>,
+    /// The nodes, and the component of each.
+    pub(crate) nodes: List<SearchNode>,
+    pub(crate) parts: List<NodeComponent>,
+    /// For each node those that have it for a child.
+    pub(crate) parents: Rows<SearchNode>,
+    /// For the first node of each component its nodes, each after those below it, and the nodes outside to which they lead.
+    pub(crate) members: Rows<SearchNode>,
+    pub(crate) exits: Rows<SearchNode>,
 }
 
 impl Arena {
@@ -121,40 +107,50 @@ impl Arena {
         let mut arena = Arena {
             states: lts.states() as usize,
             is_exact,
-            forth: Edges::forth(alloc, lts, &kinds),
+            forth: edges_forth(alloc, lts, &kinds),
             nodes: List::none(alloc),
-            starts: List::filled(alloc, 1, 0),
-            parents: List::none(alloc),
+            parts: List::none(alloc),
+            parents: Rows::none(alloc),
+            members: Rows::none(alloc),
+            exits: Rows::none(alloc),
         };
-        arena.enter_nodes(form, &kinds);
+        for node in form.nodes() {
+            let number = arena.count();
+            let mask = kinds.mask(number);
+            arena.nodes.push(SearchNode::of(number, node, mask));
+        }
         arena.find_roots(alloc);
         for number in (0..arena.count()).rev() {
             arena.find_height(number);
         }
         for number in 0..arena.count() {
-            arena.enter_parents(number);
+            arena.enter_rows(number);
+            let part = NodeComponent::of(&arena, arena.node(number).root);
+            arena.parts.push(part);
         }
-        if arena.is_whole() { Some(arena) } else { None }
+        arena.is_whole().then_some(arena)
     }
 
     fn is_whole(&self) -> bool {
-        let are_parents = self.starts.is_whole() && self.parents.is_whole();
-        are_parents && self.nodes.is_whole() && self.forth.is_whole()
+        let are_rows = self.parents.is_whole() && self.members.is_whole() && self.exits.is_whole();
+        are_rows && self.nodes.is_whole() && self.parts.is_whole() && self.forth.is_whole()
     }
 
-    /// How many nodes there are.
-    #[inline(always)]
     pub(crate) fn count(&self) -> usize {
         self.nodes.len()
     }
 
     #[inline(always)]
     pub(crate) fn node(&self, number: usize) -> SearchNode {
-        self.nodes.get_or(number, NOTHING)
+        self.nodes.get_or(number, SearchNode::default())
     }
 
-    /// Whether a node's binder takes its place. Where the least measures are wanted variables count, too.
-    pub(crate) fn is_replaced(&self, node: SearchNode) -> bool {
+    pub(crate) fn part(&self, number: usize) -> NodeComponent {
+        self.parts.get_or(number, NodeComponent::default())
+    }
+
+    // Whether a node's binder takes its place. Where the least measures are wanted variables count, too.
+    fn is_replaced(&self, node: SearchNode) -> bool {
         node.shape == SearchNodeKind::Variable && !self.is_exact
     }
 
@@ -165,27 +161,6 @@ impl Arena {
             node.first
         } else {
             number
-        }
-    }
-
-    /// The nodes that have this one for a child.
-    #[inline(always)]
-    pub(crate) fn parents(&self, number: usize) -> &[usize] {
-        let start = self.starts.get_or(number, 0);
-        let end = self.starts.get_or(number.wrapping_add(1), 0);
-        self.parents.slice(start, end)
-    }
-
-    fn enter_nodes(&mut self, form: &Normal, kinds: &Kinds) {
-        for node in form.nodes() {
-            let number = self.nodes.len();
-            self.nodes.push(SearchNode {
-                number,
-                priority: node.priority,
-                mask: kinds.mask(number),
-                root: number,
-                ..SearchNode::of(&node.kind)
-            });
         }
     }
 
@@ -217,13 +192,10 @@ impl Arena {
     // Finds a node's height, and has binders take the place of variables among its children.
     fn find_height(&mut self, number: usize) {
         let mut node = self.node(number);
-        node.height = match node.shape {
-            SearchNodeKind::Binder => 0,
-            SearchNodeKind::Variable => 1,
-            _ => self
-                .height_over(node, node.first)
-                .max(self.height_over(node, node.second)),
-        };
+        if !node.is_binder() {
+            let first = self.height_over(node, node.first);
+            node.height = first.max(self.height_over(node, node.second));
+        }
         node.first = self.real(node.first);
         node.second = self.real(node.second);
         self.nodes.set(number, node);
@@ -231,23 +203,37 @@ impl Arena {
 
     fn height_over(&self, node: SearchNode, child: usize) -> u32 {
         let below = self.node(child);
-        if child == NONE {
-            0
-        } else if below.root == node.root {
-            below.height.saturating_add(1)
-        } else {
-            1
+        match child {
+            NONE => 0,
+            _ if below.root == node.root => below.height.saturating_add(1),
+            _ => 1,
         }
     }
 
-    fn enter_parents(&mut self, number: usize) {
-        for parent in 0..self.count() {
-            let node = self.node(parent);
-            let is_parent = node.first == number || node.second == number;
-            if is_parent && !self.is_replaced(node) {
-                self.parents.push(parent);
+    // Enters what leads to a node, and what is in its component and outside, if it is the first one there.
+    fn enter_rows(&mut self, number: usize) {
+        for other in (0..self.count()).rev() {
+            let node = self.node(other);
+            let is_here = !self.is_replaced(node);
+            if is_here && (node.first == number || node.second == number) {
+                self.parents.items.push(node);
+            }
+            if is_here && node.root == number {
+                self.enter_member(node);
             }
         }
-        self.starts.push(self.parents.len());
+        self.parents.end();
+        self.members.end();
+        self.exits.end();
+    }
+
+    fn enter_member(&mut self, node: SearchNode) {
+        self.members.items.push(node);
+        for child in [node.first, node.second] {
+            let below = self.node(child);
+            if child != NONE && below.root != node.root {
+                self.exits.items.push(below);
+            }
+        }
     }
 }

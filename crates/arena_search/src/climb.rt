@@ -4,7 +4,7 @@ use crate::arena::SearchNode;
 use crate::edges::{state_of, takes};
 use crate::exits::NEVER;
 use crate::search::{ArenaSearch, Vertex};
-use crate::sets::{bit, count, states_of};
+use crate::sets::{bit, states_of};
 use std::mem;
 
 // Levels of fewer vertices are found vertex by vertex.
@@ -53,20 +53,15 @@ impl ArenaSearch<'_> {
     fn fill(&mut self, level: u32) -> usize {
         self.enter_exits(level);
         self.looks = 0;
-        if level > 0 {
-            self.take_all(level, true);
-        }
+        self.take_all(level, true);
         self.take_all(level, false);
         let mut found = 0_usize;
-        for place in 0..self.order.len() {
-            let node = self.member(place);
-            if self.part.is_late(node) {
-                found = found.wrapping_add(self.look(node, level));
+        for node in self.members() {
+            if self.part.is_late(*node) {
+                found = found.wrapping_add(self.look(*node, level));
             }
         }
-        for number in 0..self.news.len() {
-            self.news.set(number, false);
-        }
+        self.news.as_mut_slice().fill(false);
         let is_over = found == 0 && self.waiting.is_empty();
         self.is_walking = !is_over && !self.is_dense(found);
         if self.is_walking {
@@ -77,9 +72,8 @@ impl ArenaSearch<'_> {
 
     // Gains in this level what was found in the one before of the nodes that are late, or what is found now of the others.
     fn take_all(&mut self, level: u32, are_late: bool) {
-        for place in 0..self.order.len() {
-            let node = self.member(place);
-            if self.part.is_late(node) == are_late && (are_late || self.look(node, level) > 0) {
+        for node in self.members() {
+            if self.part.is_late(*node) == are_late && (are_late || self.look(*node, level) > 0) {
                 self.take(node.number, level);
             }
         }
@@ -88,8 +82,8 @@ impl ArenaSearch<'_> {
     // Whether it takes less time to look at all states for the next level than to go back from what it gains. Edges back are made once that has taken long.
     fn is_dense(&mut self, found: usize) -> bool {
         let is_dense = found > MANY && found.saturating_mul(BACK) > self.looks;
-        let cost = self.looks.saturating_add(self.gain.width());
-        if is_dense || !self.back.is_empty() || cost > self.spare {
+        let cost = self.looks.saturating_add(self.gain.width);
+        if is_dense || !self.back.items.is_empty() || cost > self.spare {
             return is_dense;
         }
         self.spare = self.spare.saturating_sub(cost);
@@ -105,36 +99,28 @@ impl ArenaSearch<'_> {
             return 0;
         }
         let mut found = 0_usize;
-        for word in 0..self.gain.width() {
+        for word in 0..self.gain.width {
             let bits = self.wanted(node, word);
             self.next.set_word(node.number, word, bits);
-            found = found.wrapping_add(count(bits));
+            found = found.wrapping_add(bits.count_ones() as usize);
         }
         found
     }
 
+    // The states of a node that are gained by its children. What the player of the next block has gained before was lost for good.
     fn wanted(&mut self, node: SearchNode, word: usize) -> u64 {
-        let rest = self.rest(node.number, word);
+        let mut gained = self.gain.word(node.number, word);
+        if self.part.blocks > 1 {
+            gained |= self.gain.word(self.row(1, node.number), word);
+        }
+        let rest = self.gain.all(word) & !gained;
         if node.is_modal() {
             return self.pulled(node, word, rest);
         }
         let first = self.gain.word(node.first, word);
         let second = self.gain.word(node.second, word);
-        if self.part.wants_one(node) {
-            rest & (first | second)
-        } else {
-            rest & first & second
-        }
-    }
-
-    // The states of a node that may be gained yet: what the player of the next block has gained before was lost for good.
-    #[inline(always)]
-    fn rest(&self, number: usize, word: usize) -> u64 {
-        let mut gained = self.gain.word(number, word);
-        if self.part.blocks > 1 {
-            gained |= self.gain.word(self.row(1, number), word);
-        }
-        self.gain.all(word) & !gained
+        let one = self.part.wants_one(node);
+        rest & if one { first | second } else { first & second }
     }
 
     // From states that aren't gained yet on to their successors.
@@ -142,8 +128,10 @@ impl ArenaSearch<'_> {
         let wants_one = self.part.wants_one(node);
         let mut bits = 0;
         for state in states_of(word, rest) {
+            let mut edges = self.arena.forth.row(state, 0).iter();
             let is_gained = if wants_one {
-                self.has_one(node, state)
+                edges.any(|edge| takes(node.mask, *edge)
+                    && self.gain.has(node.first, state_of(*edge)))
             } else {
                 self.has_all(node, state)
             };
@@ -151,18 +139,9 @@ impl ArenaSearch<'_> {
                 bits |= bit(state);
             }
         }
-        self.looks = self.looks.wrapping_add(count(rest & !bits));
+        let looked = (rest & !bits).count_ones();
+        self.looks = self.looks.wrapping_add(looked as usize);
         bits
-    }
-
-    #[inline(always)]
-    fn has_one(&self, node: SearchNode, state: usize) -> bool {
-        for edge in self.arena.forth.row(state, 0) {
-            if takes(node.mask, *edge) && self.gain.has(node.first, state_of(*edge)) {
-                return true;
-            }
-        }
-        false
     }
 
     // Whether all successors are gained. If not, the first one that isn't is noted.
@@ -184,7 +163,7 @@ impl ArenaSearch<'_> {
     // Gains what was found of a node.
     fn take(&mut self, number: usize, level: u32) {
         let counted = self.leveled(level);
-        for word in 0..self.gain.width() {
+        for word in 0..self.gain.width {
             let bits = self.next.taken(number, word);
             if bits != 0 {
                 self.gain.add(number, word, bits);
@@ -196,11 +175,10 @@ impl ArenaSearch<'_> {
 
     // Lists what is found for the next level.
     fn list_next(&mut self) {
-        for place in 0..self.order.len() {
-            let node = self.order.get_or(place, 0);
-            for word in 0..self.gain.width() {
-                for state in states_of(word, self.next.taken(node, word)) {
-                    self.later.push(Vertex { node, state });
+        for node in self.members() {
+            for word in 0..self.gain.width {
+                for state in states_of(word, self.next.taken(node.number, word)) {
+                    self.later.push((node.number, state));
                 }
             }
         }
@@ -215,47 +193,53 @@ impl ArenaSearch<'_> {
             let Some(vertex) = self.todo.pop() else {
                 break;
             };
-            if !self.is_done(vertex) {
-                self.settle(vertex, level);
-                self.carry(vertex, Change::Gain);
-            }
+            self.settle(vertex, level, Change::Gain);
         }
         let found = self.later.len();
         if found > MANY && self.is_dense(found) {
             self.is_walking = false;
-            for _ in 0..found {
-                self.unlist();
+            for (node, state) in self.later.as_slice() {
+                self.next.put(*node, *state);
             }
+            self.later.clear();
         }
         found
     }
 
-    fn unlist(&mut self) {
-        if let Some(Vertex { node, state }) = self.later.pop() {
-            self.next.put(node, state);
+    /// The player of the innermost block gains a vertex at a level, if that hasn't it yet.
+    #[inline(always)]
+    pub(crate) fn settle(&mut self, vertex: Vertex, level: u32, change: Change) {
+        let (node, state) = vertex;
+        if !self.gain.has(node, state) {
+            self.gain.put(node, state);
+            self.count(node, state, self.leveled(level));
+            self.carry(vertex, change);
         }
+    }
+
+    // A level, in its field.
+    fn leveled(&self, level: u32) -> u64 {
+        u64::from(level) << (self.place % u64::BITS)
     }
 
     /// Carries a change of a vertex on to those of the innermost block that lead to it.
     #[inline(always)]
-    pub(crate) fn carry(&mut self, vertex: Vertex, change: Change) {
+    pub(crate) fn carry(&mut self, (child, state): Vertex, change: Change) {
         let arena = self.arena;
-        for parent in arena.parents(vertex.node) {
-            let node = arena.node(*parent);
-            if self.part.is_inner(node) {
+        for node in arena.parents.row(child, 0) {
+            if self.part.is_inner(*node) {
                 if node.is_modal() {
-                    self.carry_back(node, vertex.state, change);
+                    self.carry_back(*node, state, change);
                 } else {
-                    self.meet(node, vertex.state, change);
+                    self.meet(*node, state, change);
                 }
             }
         }
     }
 
-    #[inline(always)]
     fn carry_back(&mut self, node: SearchNode, state: usize, change: Change) {
         for place in self.back.places(state) {
-            let edge = self.back.edge(place);
+            let edge = self.back.items.get_or(place, 0);
             if takes(node.mask, edge) {
                 self.meet(node, state_of(edge), change);
             }
@@ -273,27 +257,19 @@ impl ArenaSearch<'_> {
         }
     }
 
-    // Whether a node that has a new child or successor is gained by it.
-    #[inline(always)]
-    fn is_ready(&mut self, node: SearchNode, state: usize) -> bool {
-        if self.part.wants_one(node) {
+    // Lists a vertex that has a new child or successor, if it is gained by that.
+    fn reach(&mut self, node: SearchNode, state: usize) {
+        let is_ready = if self.part.wants_one(node) {
             true
         } else if node.is_modal() {
             self.has_all(node, state)
         } else {
             self.gain.has(node.first, state) && self.gain.has(node.second, state)
-        }
-    }
-
-    #[inline(always)]
-    fn reach(&mut self, node: SearchNode, state: usize) {
-        if self.is_ready(node, state) {
-            let list = if self.part.is_late(node) {
-                &mut self.later
-            } else {
-                &mut self.todo
-            };
-            list.push(node.at(state));
+        };
+        if is_ready && self.part.is_late(node) {
+            self.later.push((node.number, state));
+        } else if is_ready {
+            self.todo.push((node.number, state));
         }
     }
 }

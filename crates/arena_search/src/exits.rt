@@ -1,9 +1,8 @@
 // Nodes outside a component. Where no measures are wanted all that is won there is gained at once; else at the level, or in the round, that its
 // measure says.
 
-use crate::arena::NONE;
 use crate::climb::Change;
-use crate::search::{ArenaSearch, Vertex};
+use crate::search::ArenaSearch;
 use crate::sets::{bit, states_of};
 use std::cmp::Reverse;
 
@@ -11,15 +10,9 @@ use std::cmp::Reverse;
 pub(crate) const NEVER: u32 = u32::MAX;
 
 impl ArenaSearch<'_> {
-    /// Enters a node outside, and finds whether what is won there counts in the component.
-    pub(crate) fn enter_exit(&mut self, number: usize) {
-        self.exits.push(number);
-        for state in 0..self.arena.states {
-            if self.are_timed || !self.part.is_cyclic || !self.arena.is_exact {
-                return;
-            }
-            self.are_timed = self.counted_here(number, state) != 0;
-        }
+    /// Whether what is won at a node outside counts in the component.
+    pub(crate) fn is_timed(&self, number: usize) -> bool {
+        (0..self.arena.states).any(|state| self.counted_here(number, state) != 0)
     }
 
     // What the measure of a vertex counts in the fields of the component's blocks.
@@ -79,74 +72,50 @@ impl ArenaSearch<'_> {
         bits
     }
 
-    /// The player of the innermost block begins with what it has of a node outside. What it gains after the first level waits for its own.
-    pub(crate) fn begin_exit(&mut self, node: usize) {
-        self.news.set(node, false);
-        for word in 0..self.gain.width() {
-            let bits = self.exit(0, node, word);
-            self.begin_word(node, node, word, bits);
-        }
-        if self.are_timed {
-            for state in 0..self.arena.states {
-                let level = self.entry(0, node, state);
-                if level > 0 {
-                    self.await_level(level, Vertex { node, state });
-                }
+    /// What the player of the innermost block gains of a node outside after the first level waits for its own.
+    pub(crate) fn await_exit(&mut self, node: usize) {
+        let timed = if self.are_timed { self.arena.states } else { 0 };
+        for state in 0..timed {
+            let level = self.entry(0, node, state);
+            if level > 0 {
+                self.await_level(level, (node, state));
             }
         }
     }
 
     /// The level at which the next one of those comes.
     pub(crate) fn next_entry(&self) -> u32 {
-        match self.waiting.peek() {
-            Some((Reverse(level), _, _)) => *level,
-            None => NEVER,
-        }
+        let next = self.waiting.peek();
+        next.map_or(NEVER, |(Reverse(level), _, _)| *level)
     }
 
-    /// Those that come at this level are new.
+    /// Those that come at this level are new: from the next level on those that lead to them are gained by them, or at once where all states are looked at.
     pub(crate) fn enter_exits(&mut self, level: u32) {
         for _ in 0..u64::MAX {
             if self.next_entry() != level {
                 break;
             }
             if let Some((_, node, state)) = self.waiting.pop() {
-                self.enter_one(Vertex { node, state });
+                self.gain.put(node, state);
+                if self.is_walking {
+                    self.carry((node, state), Change::Gain);
+                } else {
+                    self.news.set(node, true);
+                }
             }
-        }
-    }
-
-    // From the next level on those that lead to it are gained by it, or at once where all states are looked at.
-    fn enter_one(&mut self, vertex: Vertex) {
-        self.gain.put(vertex.node, vertex.state);
-        if self.is_walking {
-            self.carry(vertex, Change::Gain);
-        } else {
-            self.news.set(vertex.node, true);
         }
     }
 
     /// Where a round changes nothing, the next one is that in which something comes from outside. The answer is whether there is one.
     pub(crate) fn wait_for_exits(&mut self, block: usize, round: u32) -> bool {
         let mut next = NEVER;
-        if self.are_timed {
-            for place in 0..self.exits.len() {
-                let number = self.exits.get_or(place, NONE);
-                next = next.min(self.entry_after(block, number, round));
-            }
+        let exits = if self.are_timed { self.exits() } else { &[] };
+        for exit in exits {
+            let entries = (0..self.arena.states).map(|state| self.entry(block, exit.number, state));
+            let after = entries.filter(|entry| *entry > round).min();
+            next = next.min(after.unwrap_or(NEVER));
         }
         self.rounds.set(block, next);
         next != NEVER
-    }
-
-    fn entry_after(&self, block: usize, number: usize, round: u32) -> u32 {
-        let mut next = NEVER;
-        for state in 0..self.arena.states {
-            let entry = self.entry(block, number, state);
-            if entry > round {
-                next = next.min(entry);
-            }
-        }
-        next
     }
 }

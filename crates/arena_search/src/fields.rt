@@ -43,47 +43,15 @@ impl Fields {
         !power(self.place(priority)).wrapping_sub(1)
     }
 
+    /// The field of a priority, or no bit where it has none.
+    pub(crate) fn field(&self, priority: u32) -> u64 {
+        self.above(priority) & !self.above(priority.wrapping_add(1))
+    }
+
     /// What a number has in the field of a priority, if there is one.
     pub(crate) fn count(&self, priority: u32, word: u64) -> u32 {
-        let fields = word & self.above(priority) & !self.above(priority.wrapping_add(1));
-        let count = fields.checked_shr(self.place(priority)).unwrap_or(0);
-        u32::try_from(count).unwrap_or(u32::MAX)
-    }
-
-    /// How vertices of a priority count.
-    pub(crate) fn step(&self, priority: u32) -> CountingRule {
-        let above = self.above(priority);
-        let is_counted = power(priority) & u64::from(self.priorities) != 0;
-        let unit = power(self.place(priority));
-        CountingRule {
-            above,
-            unit: if is_counted { unit } else { 0 },
-            field: above & !self.above(priority.wrapping_add(1)),
-        }
-    }
-}
-
-/// How a player counts vertices of a priority.
-#[derive(Clone, Copy)]
-pub(crate) struct CountingRule {
-    // The fields of the priority and of greater ones.
-    above: u64,
-    // One in its own field, where the player counts it, and that field.
-    unit: u64,
-    field: u64,
-}
-
-impl CountingRule {
-    /// What is counted from a vertex on, where this is counted from its successor on.
-    #[inline(always)]
-    pub(crate) fn carried(&self, word: u64) -> u64 {
-        (word & self.above).wrapping_add(self.unit)
-    }
-
-    /// Whether one more can be counted.
-    #[inline(always)]
-    pub(crate) fn has_room(&self, word: u64) -> bool {
-        self.unit == 0 || word & self.field != self.field
+        let count = (word & self.field(priority)).checked_shr(self.place(priority));
+        u32::try_from(count.unwrap_or(0)).unwrap_or(u32::MAX)
     }
 }
 
@@ -93,58 +61,50 @@ pub(crate) struct Layout {
     pub(crate) is_wide: bool,
     pub(crate) even: Fields,
     pub(crate) odd: Fields,
-    /// How many bits are below all fields, for the mark and in a ranking for the height, and above them, for the group and of measures for another mark.
-    pub(crate) low: u32,
-    pub(crate) group: u32,
+    /// How far a count is shifted to the left in a number, which has below it the mark and in a ranking the height.
+    pub(crate) raised: u32,
+    // How many bits are above all fields, for the group and of measures for another mark.
+    group: u32,
+    // The greatest height of a node.
+    height: u32,
 }
 
 impl Layout {
     /// The fields that these nodes want: for a ranking those of the binders' priorities, and for measures those of all.
     pub(crate) fn of(arena: &Arena, is_wide: bool) -> Self {
-        let (mut priorities, mut height) = (0, 0);
-        for number in 0..arena.count() {
-            let node = arena.node(number);
+        let exact = u32::from(arena.is_exact);
+        let (mut priorities, mut height) = (exact.wrapping_mul(3), 0);
+        for node in arena.nodes.as_slice() {
             height = node.height.max(height);
             if arena.is_exact || node.is_binder() {
                 priorities |= 1_u32.checked_shl(node.priority).unwrap_or(0);
             }
         }
-        let group = bits(u32::try_from(arena.count()).unwrap_or(u32::MAX));
-        if arena.is_exact {
-            Layout::with(priorities | 3, is_wide, 1, group.saturating_add(1))
+        let group = bits(u32::try_from(arena.count()).unwrap_or(u32::MAX)).saturating_add(exact);
+        let below = if arena.is_exact { 0 } else { bits(height) };
+        let below = below.saturating_add(1);
+        let (low, raised, room) = if is_wide {
+            let taken = below.saturating_add(group);
+            (below, 0, u64::BITS.saturating_sub(taken))
         } else {
-            Layout::with(priorities, is_wide, bits(height).saturating_add(1), group)
-        }
-    }
-
-    fn with(priorities: u32, is_wide: bool, low: u32, group: u32) -> Self {
-        let (evens, odds) = (priorities & EVENS, priorities & !EVENS);
-        let room = if is_wide {
-            u64::BITS.saturating_sub(low).saturating_sub(group)
-        } else {
-            u32::BITS
+            (0, below, u32::BITS)
         };
+        let (evens, odds) = (priorities & EVENS, priorities & !EVENS);
         let most = evens.count_ones().max(odds.count_ones());
-        let even = Fields {
-            priorities: evens,
-            low: if is_wide { low } else { 0 },
-            width: room.checked_div(most).unwrap_or(room),
+        let width = room.checked_div(most).unwrap_or(room);
+        let fields = |priorities| Fields {
+            priorities,
+            low,
+            width,
         };
         Layout {
             is_wide,
-            even,
-            odd: Fields {
-                priorities: odds,
-                ..even
-            },
-            low,
+            even: fields(evens),
+            odd: fields(odds),
+            raised,
             group,
+            height,
         }
-    }
-
-    /// How far a count is shifted to the left in a number, which has more below it.
-    pub(crate) fn raised(&self) -> u32 {
-        if self.is_wide { 0 } else { self.low }
     }
 
     /// What numbers have above all fields: that of a component, which is less where it is further down.
@@ -154,7 +114,6 @@ impl Layout {
         group.checked_shl(place).unwrap_or(0)
     }
 
-    /// The fields of a player.
     pub(crate) fn fields(&self, is_odd: bool) -> Fields {
         if is_odd { self.odd } else { self.even }
     }
@@ -169,8 +128,8 @@ impl Layout {
         power(self.place(priority))
     }
 
-    /// Whether all fields hold a count.
+    /// Whether all fields hold a count, and the heights of nodes.
     pub(crate) fn holds(&self, count: u32) -> bool {
-        bits(count) <= self.even.width
+        bits(count.max(self.height)) <= self.even.width
     }
 }

@@ -1,8 +1,7 @@
 // The least measures of both players, with heights by which it can be seen that they are.
 
-use crate::arena::{Arena, NONE, SearchNode};
+use crate::arena::{Arena, SearchNode};
 use crate::fields::{Fields, MARK};
-use crate::part::NodeComponent;
 use crate::search::ArenaSearch;
 use calculus::form::Normal;
 use game::list::List;
@@ -41,46 +40,28 @@ pub struct GuessedMeasures {
     pub odd: GuessedLayout,
 }
 
-// The search once it has ended, with the component of each node, where its numbers come from, the greatest priority, and whether any vertex counts.
+// The search once it has ended, with the greatest priority, and whether any vertex counts.
 #[derive(Drop)]
 struct FoundMeasures<'a> {
     search: ArenaSearch<'a>,
-    parts: List<NodeComponent>,
-    numbers: List<NumberSource>,
     greatest: u32,
     has_counts: bool,
 }
 
-// Where the numbers of a node's vertices come from: the list of its measures, and what is above all fields.
-#[derive(Clone, Copy)]
-struct NumberSource {
-    list: usize,
-    above: u64,
-}
-
-const NO_NUMBERS: NumberSource = NumberSource {
-    list: NONE,
-    above: 0,
-};
-
 /// Guesses the least measures of both players. There are none where that takes too long, where counts don't fit a word, or where memory runs out.
 pub fn least_measures(alloc: Global, lts: &Lts, form: &Normal) -> Option<GuessedMeasures> {
     let arena = Arena::of(alloc, lts, form, true)?;
-    let mut found = FoundMeasures {
-        search: ArenaSearch::of(alloc, &arena)?,
-        parts: List::none(alloc),
-        numbers: List::none(alloc),
-        greatest: 1,
-        has_counts: false,
-    };
-    for number in 0..arena.count() {
-        let node = arena.node(number);
-        found.parts.push(NodeComponent::of(&arena, node.root));
-        let numbers = found.numbers_of(number);
-        found.has_counts |= found.search.has_counts(numbers.list);
-        found.numbers.push(numbers);
-        found.greatest = node.priority.max(found.greatest);
+    let search = ArenaSearch::of(alloc, &arena)?;
+    let (mut greatest, mut has_counts) = (1, false);
+    for node in arena.nodes.as_slice() {
+        greatest = node.priority.max(greatest);
+        has_counts |= search.has_counts(search.measures(node.number));
     }
+    let found = FoundMeasures {
+        search,
+        greatest,
+        has_counts,
+    };
     Some(found.measures(alloc))
 }
 
@@ -103,12 +84,12 @@ impl FoundMeasures<'_> {
     }
 
     fn raised(&self, word: u64) -> u64 {
-        word.checked_shl(self.search.layout.raised()).unwrap_or(0)
+        word.checked_shl(self.search.layout.raised).unwrap_or(0)
     }
 
     // What falls along the edges of a component where the winner's count of this priority stays the same. It counts what the opponent does.
     fn fallen(&self, is_odd: bool, priority: u32, node: SearchNode, state: usize) -> u64 {
-        let part = self.parts.get_or(node.number, self.search.part);
+        let part = self.search.arena.part(node.number);
         let inner = priority.wrapping_sub(part.least).wrapping_sub(1) as usize;
         let base = if is_odd || part.counts_steps || !part.is_cyclic {
             0
@@ -116,64 +97,33 @@ impl FoundMeasures<'_> {
             let unit = self.search.layout.unit(0);
             unit.wrapping_mul(u64::from(node.height))
         };
-        if !part.is_cyclic || inner.wrapping_add(1) >= part.blocks {
+        if inner.wrapping_add(1) >= part.blocks {
             return base;
         }
         let list = self.search.list(inner, node.number);
         base.wrapping_add(self.search.counted(list, state))
     }
 
-    fn numbers_of(&self, node: usize) -> NumberSource {
+    // Writes the row of a vertex from a place on: its number, and a height at each count of the winner's, where there is anything to count.
+    fn write(&self, rows: &mut List<u64>, first: usize, node: SearchNode, state: usize) {
         let ArenaSearch { arena, layout, .. } = &self.search;
-        NumberSource {
-            list: self.search.measures(node),
-            above: layout.group(arena, arena.node(node)),
-        }
-    }
-
-    // Writes the heights of a vertex after its number: one at each count of the winner's, where there is anything to count.
-    fn write_heights(&self, rows: &mut List<u64>, first: usize, number: usize, state: usize) {
-        let node = self.search.arena.node(number);
-        let NumberSource { list, above } = self.numbers_of(number);
-        let word = self.search.counted(list, state);
-        let is_odd = self.search.odd.has(number, state);
-        let fields = self.search.layout.fields(is_odd);
-        for place in 0..self.width(is_odd) {
+        let above = layout.group(arena, node);
+        let word = self
+            .search
+            .counted(self.search.measures(node.number), state);
+        let is_odd = self.search.odd.has(node.number, state);
+        let number = self.raised(word).wrapping_add(above);
+        rows.set(first, number.wrapping_add(u64::from(is_odd)));
+        let counts = if word == 0 { 0 } else { self.width(is_odd) };
+        for place in 0..counts {
             let priority = self.priority(is_odd, place);
-            if node.priority < priority && fields.count(priority, word) > 0 {
+            let count = layout.fields(is_odd).count(priority, word);
+            if node.priority < priority && count > 0 {
                 let fallen = self.raised(self.fallen(is_odd, priority, node, state));
                 let height = fallen.wrapping_add(above).wrapping_add(COUNTS_BELOW);
                 rows.set(first.wrapping_add(1).wrapping_add(place as usize), height);
             }
         }
-    }
-
-    // Writes the row of a vertex from a place on.
-    #[inline(always)]
-    fn write(&self, rows: &mut List<u64>, first: usize, node: usize, state: usize) {
-        let NumberSource { list, above } = self.numbers.get_or(node, NO_NUMBERS);
-        let word = self.search.counted(list, state);
-        let is_odd = self.search.odd.has(node, state);
-        let number = self.raised(word).wrapping_add(above);
-        rows.set(first, number.wrapping_add(u64::from(is_odd)));
-        if word != 0 {
-            self.write_heights(rows, first, node, state);
-        }
-    }
-
-    // The rows of so many vertices, by state and then by node. The sinks come first: Odd wins the second one.
-    fn rows(&self, alloc: Global, vertices: usize) -> List<u64> {
-        let stride = (self.heights() as usize).saturating_add(1);
-        let mut rows = List::filled(alloc, vertices.saturating_mul(stride), 0);
-        rows.set(stride, MARK);
-        let mut first = stride.saturating_mul(2);
-        for state in 0..self.search.arena.states {
-            for node in 0..self.numbers.len() {
-                self.write(&mut rows, first, node, state);
-                first = first.wrapping_add(stride);
-            }
-        }
-        rows
     }
 
     // The field of a priority, and for one that has none the highest bit, which no number has.
@@ -183,7 +133,7 @@ impl FoundMeasures<'_> {
         if width == 0 {
             return GuessedField { left: 0, right: 63 };
         }
-        let end = end.saturating_add(self.search.layout.raised());
+        let end = end.saturating_add(self.search.layout.raised);
         GuessedField {
             left: u64::BITS.saturating_sub(end),
             right: u64::BITS.saturating_sub(width),
@@ -202,7 +152,7 @@ impl FoundMeasures<'_> {
         for priority in 0..SHIFTS {
             let own = priority.saturating_sub(u32::from(is_odd));
             let place = layout.fields(!is_odd).place(own);
-            shifts.push(place.saturating_add(layout.raised()));
+            shifts.push(place.saturating_add(layout.raised));
         }
         GuessedLayout {
             fields: fields.into_items(),
@@ -210,13 +160,24 @@ impl FoundMeasures<'_> {
         }
     }
 
+    // The rows are by state and then by node. The sinks come first: Odd wins the second one.
     fn measures(&self, alloc: Global) -> GuessedMeasures {
         let arena = self.search.arena;
         let vertices = arena.states.saturating_mul(arena.count()).saturating_add(2);
+        let stride = (self.heights() as usize).saturating_add(1);
+        let mut rows = List::filled(alloc, vertices.saturating_mul(stride), 0);
+        rows.set(stride, MARK);
+        let mut first = stride.saturating_mul(2);
+        for state in 0..arena.states {
+            for node in arena.nodes.as_slice() {
+                self.write(&mut rows, first, *node, state);
+                first = first.wrapping_add(stride);
+            }
+        }
         GuessedMeasures {
             vertices: u32::try_from(vertices).unwrap_or(0),
             width: self.heights(),
-            rows: self.rows(alloc, vertices).into_items(),
+            rows: rows.into_items(),
             even: self.layout(alloc, false),
             odd: self.layout(alloc, true),
         }

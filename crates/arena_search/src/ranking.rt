@@ -21,11 +21,6 @@ pub struct GuessedRanking {
     pub odd_shifts: Vec<u32>,
 }
 
-// A place among lists, or one past all of them.
-fn place(number: usize) -> u32 {
-    u32::try_from(number).unwrap_or(u32::MAX)
-}
-
 impl ArenaSearch<'_> {
     // The numbers of a node, above the number of its component.
     fn column(&self, number: usize) -> Column {
@@ -34,29 +29,31 @@ impl ArenaSearch<'_> {
         let even = self.layout.group(self.arena, node);
         let height = u64::from(node.height).wrapping_mul(2).wrapping_add(MARK);
         let odd = even.wrapping_add(height);
-        let size = self.odd.size(real);
-        let is_constant = !self.counts.has(real) && !self.words.has(real);
-        if is_constant && size == 0 {
-            Column::Same(even)
-        } else if is_constant && size == self.arena.states {
-            Column::Same(odd)
-        } else {
-            Column::Won(Marked {
-                marks: place(real.wrapping_mul(self.odd.width())),
-                even,
-                odd,
-                unit: 1_u64.checked_shl(self.layout.low).unwrap_or(0),
-                counts: place(real),
-                words: place(real),
-            })
+        let is_constant = !self.has_counts(real);
+        let width = self.odd.width;
+        if is_constant && (0..width).all(|word| self.odd.word(real, word) == 0) {
+            return Column::Same(even);
         }
+        if is_constant && (0..width).all(|word| self.odd.word(real, word) == self.odd.all(word)) {
+            return Column::Same(odd);
+        }
+        let list = u32::try_from(real).unwrap_or(u32::MAX);
+        let marks = real.wrapping_mul(width);
+        Column::Won(Marked {
+            marks: u32::try_from(marks).unwrap_or(u32::MAX),
+            even,
+            odd,
+            unit: 1_u64.checked_shl(self.layout.raised).unwrap_or(0),
+            counts: list,
+            words: list,
+        })
     }
 
     // How many of the lowest bits don't count for a player at each priority. At priority 0 heights count.
     fn shifts(&self, fields: Fields) -> List<u32> {
         let mut shifts = List::filled(self.alloc, 1, 1);
         for priority in 1..PRIORITIES {
-            shifts.push(fields.place(priority).saturating_add(self.layout.raised()));
+            shifts.push(fields.place(priority).saturating_add(self.layout.raised));
         }
         shifts
     }
@@ -76,9 +73,9 @@ pub fn ranking(alloc: Global, lts: &Lts, form: &Normal) -> Option<GuessedRanking
     Some(GuessedRanking {
         columns: Columns {
             nodes: nodes.into_items(),
-            marks: search.odd.into_words(),
-            counts: search.counts.into_lists(),
-            words: search.words.into_lists(),
+            marks: search.odd.words.into_items(),
+            counts: search.counts.lists,
+            words: search.words.lists,
         },
         even_shifts,
         odd_shifts,

@@ -1,11 +1,11 @@
 // Rounds just outside the innermost block that change little: what rests on what is lost is taken away, and what has another support gained again, at
 // the levels that a climb would find.
 
-use crate::arena::SearchNode;
+use crate::arena::{NONE, SearchNode};
 use crate::climb::Change;
 use crate::edges::{state_of, takes};
 use crate::exits::NEVER;
-use crate::search::{ArenaSearch, NOWHERE, Vertex};
+use crate::search::{ArenaSearch, Vertex};
 use crate::sets::{bit, word_of};
 use std::cmp::Reverse;
 use std::mem;
@@ -22,15 +22,12 @@ impl ArenaSearch<'_> {
     /// Has rounds follow each other after the one in which what is lost was lost, as long as they change little. The answer is whether a climb has to follow.
     pub(crate) fn repair_rounds(&mut self) -> bool {
         for _ in 0..u64::MAX {
-            if self.lost.is_empty() {
-                return false;
-            }
-            if self.left == 0 || !self.repair() {
-                return true;
+            if self.lost.is_empty() || self.left == 0 || !self.repair() {
+                break;
             }
             self.close_repaired();
         }
-        false
+        !self.lost.is_empty()
     }
 
     // Takes away what is lost and what rests on it, and gains again what has another support. The answer is whether that wasn't too much.
@@ -40,11 +37,10 @@ impl ArenaSearch<'_> {
             return false;
         }
         self.want_back();
-        for place in 0..self.lost.len() {
-            let vertex = self.lost.get_or(place, NOWHERE);
-            self.gain.remove(vertex.node, vertex.state);
-            self.todo.push(vertex);
+        for (node, state) in self.lost.as_slice() {
+            self.gain.remove(*node, *state);
         }
+        self.todo.extend(self.lost.as_slice());
         for _ in 0..u64::MAX {
             let Some(vertex) = self.todo.pop() else {
                 break;
@@ -64,78 +60,55 @@ impl ArenaSearch<'_> {
     // Gains again what is gone, in the order of levels.
     fn regain(&mut self) {
         for place in 0..self.gone.len() {
-            let Vertex { node, state } = self.gone.get_or(place, NOWHERE);
-            let node = self.arena.node(node);
-            self.wait(node, state);
+            let (node, state) = self.gone.get_or(place, (NONE, 0));
+            self.wait(self.arena.node(node), state);
         }
         for _ in 0..u64::MAX {
             let Some((Reverse(level), node, state)) = self.waiting.pop() else {
                 break;
             };
-            let vertex = Vertex { node, state };
-            if !self.is_done(vertex) {
-                self.settle(vertex, level);
-                self.carry(vertex, Change::Return);
-            }
+            self.settle((node, state), level, Change::Return);
         }
     }
 
     /// A vertex that is gained is lost where its children's levels don't support its own any more.
-    #[inline(always)]
     pub(crate) fn lose(&mut self, node: SearchNode, state: usize) {
         let number = node.number;
         if !self.is_given(number, state) && self.level(node, state) > self.level_at(number, state) {
             self.gain.remove(number, state);
-            self.gone.push(node.at(state));
-            self.todo.push(node.at(state));
+            self.gone.push((number, state));
+            self.todo.push((number, state));
         }
     }
 
     /// A vertex that isn't gained waits for its level, if its children give it one.
     pub(crate) fn wait(&mut self, node: SearchNode, state: usize) {
-        self.await_level(self.level(node, state), node.at(state));
+        self.await_level(self.level(node, state), (node.number, state));
     }
 
     /// A vertex is gained at a level, if that ever comes.
-    pub(crate) fn await_level(&mut self, level: u32, vertex: Vertex) {
-        if level != NEVER {
-            let later = (Reverse(level), vertex.node, vertex.state);
-            if self.waiting.push(later).is_err() {
-                self.left = 0;
-            }
+    pub(crate) fn await_level(&mut self, level: u32, (node, state): Vertex) {
+        if level != NEVER && self.waiting.push((Reverse(level), node, state)).is_err() {
+            self.left = 0;
         }
     }
 
     // The level at which a vertex is gained by the levels of its children.
     fn level(&self, node: SearchNode, state: usize) -> u32 {
-        let wants_one = self.part.wants_one(node);
-        let level = if node.is_modal() {
-            self.level_by_steps(node, state, wants_one)
+        let one = self.part.wants_one(node);
+        let of = |best: u32, next: u32| if one { best.min(next) } else { best.max(next) };
+        let mut level = if one { NEVER } else { 0 };
+        if node.is_modal() {
+            for edge in self.arena.forth.row(state, 0) {
+                if takes(node.mask, *edge) {
+                    level = of(level, self.level_of(node.first, state_of(*edge)));
+                }
+            }
         } else {
             let first = self.level_of(node.first, state);
-            let second = self.level_of(node.second, state);
-            if wants_one {
-                first.min(second)
-            } else {
-                first.max(second)
-            }
-        };
-        level.saturating_add(u32::from(self.part.is_late(node)))
-    }
-
-    fn level_by_steps(&self, node: SearchNode, state: usize, wants_one: bool) -> u32 {
-        let mut best = if wants_one { NEVER } else { 0 };
-        for edge in self.arena.forth.row(state, 0) {
-            if takes(node.mask, *edge) {
-                let level = self.level_of(node.first, state_of(*edge));
-                best = if wants_one {
-                    best.min(level)
-                } else {
-                    best.max(level)
-                };
-            }
+            level = of(first, self.level_of(node.second, state));
         }
-        best
+        level.saturating_add(u32::from(self.part.is_late(node)))
     }
 
     // The level at which a child was gained: zero where it is outside, a binder of another block, or given.
@@ -150,13 +123,11 @@ impl ArenaSearch<'_> {
         }
     }
 
-    #[inline(always)]
     fn is_given(&self, number: usize, state: usize) -> bool {
         self.given(0, number, word_of(state)) & bit(state) != 0
     }
 
     // The level of a vertex that was gained by its level.
-    #[inline(always)]
     fn level_at(&self, number: usize, state: usize) -> u32 {
         let level = self.counted(number, state) >> (self.place % u64::BITS);
         (level & u64::from(u32::MAX)) as u32
@@ -166,10 +137,10 @@ impl ArenaSearch<'_> {
     fn close_repaired(&mut self) {
         mem::swap(&mut self.todo, &mut self.lost);
         for place in 0..self.gone.len() {
-            let vertex = self.gone.get_or(place, NOWHERE);
-            if !self.is_done(vertex) {
-                self.note_one(vertex);
-                self.todo.push(vertex);
+            let (node, state) = self.gone.get_or(place, (NONE, 0));
+            if !self.gain.has(node, state) {
+                self.note(1, self.arena.node(node), word_of(state), bit(state));
+                self.todo.push((node, state));
             }
         }
         let round = self.rounds.get_or(1, 0);
@@ -182,23 +153,13 @@ impl ArenaSearch<'_> {
         }
     }
 
-    fn note_one(&mut self, vertex: Vertex) {
-        let Vertex { node, state } = vertex;
-        self.note(1, self.arena.node(node), word_of(state), bit(state));
-    }
-
-    fn lose_over(&mut self, vertex: Vertex) {
+    fn lose_over(&mut self, (child, state): Vertex) {
         let arena = self.arena;
-        for parent in arena.parents(vertex.node) {
-            let lost = Vertex {
-                node: *parent,
-                ..vertex
-            };
-            let node = arena.node(*parent);
-            let is_around = self.part.has(node) && self.part.block(node) == 1;
-            if is_around && !self.gain.has(self.row(1, *parent), lost.state) {
-                self.note_one(lost);
-                self.lost.push(lost);
+        for node in arena.parents.row(child, 0) {
+            let is_around = self.part.has(*node) && self.part.block(*node) == 1;
+            if is_around && !self.gain.has(self.row(1, node.number), state) {
+                self.note(1, *node, word_of(state), bit(state));
+                self.lost.push((node.number, state));
             }
         }
     }

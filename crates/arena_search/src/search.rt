@@ -1,12 +1,12 @@
 // What is found of a component: the innermost block by levels, the others by rounds.
 
 use crate::arena::{Arena, NONE, SearchNode};
-use crate::edges::Edges;
+use crate::edges::edges_back;
 use crate::fields::Layout;
 use crate::part::NodeComponent;
 use crate::repair::Later;
-use crate::sets::{Sets, bit, states_of, word_of};
-use crate::table::NumberLists;
+use crate::sets::{Sets, states_of};
+use crate::table::{NumberLists, Rows};
 use game::list::List;
 use std::alloc::Global;
 use std::collections::BinaryHeap;
@@ -14,18 +14,8 @@ use std::collections::BinaryHeap;
 // How many vertices may be looked at, which takes some seconds.
 const BUDGET: u64 = 100_000_000;
 
-/// A node at a state.
-#[derive(Clone, Copy)]
-pub(crate) struct Vertex {
-    pub(crate) node: usize,
-    pub(crate) state: usize,
-}
-
-/// No vertex.
-pub(crate) const NOWHERE: Vertex = Vertex {
-    node: NONE,
-    state: 0,
-};
+/// A node, by its number, at a state.
+pub(crate) type Vertex = (usize, usize);
 
 /// The search, with the component at hand.
 #[derive(Drop)]
@@ -35,11 +25,8 @@ pub(crate) struct ArenaSearch<'a> {
     pub(crate) layout: Layout,
     pub(crate) part: NodeComponent,
     /// The edges back, once they are wanted.
-    pub(crate) back: Edges,
-    /// The nodes of the component that no others stand for, each after those below it.
-    pub(crate) order: List<usize>,
-    /// The nodes outside to which they lead, and whether the measures there count in the component.
-    pub(crate) exits: List<usize>,
+    pub(crate) back: Rows<u32>,
+    /// Whether the measures outside of the component count in it.
     pub(crate) are_timed: bool,
     /// The lowest bit of the field of levels, and for each block the round at hand.
     pub(crate) place: u32,
@@ -81,7 +68,9 @@ impl<'a> ArenaSearch<'a> {
     pub(crate) fn of(alloc: Global, arena: &'a Arena) -> Option<Self> {
         for is_wide in [false, true] {
             let mut search = ArenaSearch::new(alloc, arena, Layout::of(arena, is_wide));
-            search.solve_all();
+            for root in (0..arena.count()).rev() {
+                search.solve(root);
+            }
             if search.left == 0 || !search.is_whole() {
                 return None;
             }
@@ -94,21 +83,16 @@ impl<'a> ArenaSearch<'a> {
 
     fn new(alloc: Global, arena: &'a Arena, layout: Layout) -> Self {
         let (nodes, states) = (arena.count(), arena.states);
-        let mut blocks = 2;
-        for root in 0..nodes {
-            blocks = NodeComponent::of(arena, root).blocks.max(blocks);
-        }
+        let blocks = arena.parts.as_slice().iter().map(|part| part.blocks);
+        let blocks = blocks.max().unwrap_or(0).max(2);
         let rows = blocks.saturating_mul(nodes);
         let stride = if arena.is_exact { nodes } else { 0 };
-        let lists = blocks.saturating_mul(stride).saturating_add(nodes);
         ArenaSearch {
             alloc,
             arena,
             layout,
-            part: NodeComponent::of(arena, 0),
-            back: Edges::none(alloc),
-            order: List::none(alloc),
-            exits: List::none(alloc),
+            part: arena.part(0),
+            back: Rows::none(alloc),
             are_timed: false,
             place: 0,
             rounds: List::filled(alloc, blocks, 0),
@@ -117,9 +101,9 @@ impl<'a> ArenaSearch<'a> {
             news: List::filled(alloc, nodes, false),
             odd: Sets::new(alloc, nodes, states),
             stride,
-            counts: NumberLists::new(alloc, lists, states, 0),
-            words: NumberLists::new(alloc, lists, states, 0),
-            cursors: NumberLists::new(alloc, nodes, states, 0),
+            counts: NumberLists::new(alloc, states, 0),
+            words: NumberLists::new(alloc, states, 0),
+            cursors: NumberLists::new(alloc, states, 0),
             is_walking: false,
             todo: List::none(alloc),
             later: List::none(alloc),
@@ -129,17 +113,17 @@ impl<'a> ArenaSearch<'a> {
             most: 0,
             left: BUDGET,
             looks: 0,
-            spare: arena.forth.count() / 4,
+            spare: arena.forth.items.len() / 4,
         }
     }
 
     fn is_whole(&self) -> bool {
-        let are_sets = self.gain.is_whole() && self.next.is_whole() && self.odd.is_whole();
-        let are_tables = self.counts.is_whole() && self.words.is_whole() && self.cursors.is_whole();
-        let are_nodes = self.order.is_whole() && self.exits.is_whole() && self.news.is_whole();
+        let sets = [&self.gain, &self.next, &self.odd];
+        let are_sets = sets.iter().all(|set| set.words.is_whole());
+        let are_tables = self.counts.is_whole && self.words.is_whole && self.cursors.is_whole;
         let are_steps = self.todo.is_whole() && self.later.is_whole() && self.lost.is_whole();
         let are_others = self.gone.is_whole() && self.back.is_whole() && self.rounds.is_whole();
-        are_sets && are_tables && are_nodes && are_steps && are_others
+        are_sets && are_tables && are_steps && are_others && self.news.is_whole()
     }
 
     /// So many vertices were looked at.
@@ -148,24 +132,20 @@ impl<'a> ArenaSearch<'a> {
     }
 
     /// The row of a node in a block.
-    #[inline(always)]
     pub(crate) fn row(&self, block: usize, node: usize) -> usize {
         block.wrapping_mul(self.arena.count()).wrapping_add(node)
     }
 
     /// The list of a node for a block: one for all blocks, but where the least measures are wanted.
-    #[inline(always)]
     pub(crate) fn list(&self, block: usize, node: usize) -> usize {
         block.wrapping_mul(self.stride).wrapping_add(node)
     }
 
     /// The list of the measures of a node, where these are wanted.
-    #[inline(always)]
     pub(crate) fn measures(&self, node: usize) -> usize {
         self.list(self.rounds.len(), node)
     }
 
-    /// What a list counts at a state.
     #[inline(always)]
     pub(crate) fn counted(&self, list: usize, state: usize) -> u64 {
         if self.layout.is_wide {
@@ -175,7 +155,6 @@ impl<'a> ArenaSearch<'a> {
         }
     }
 
-    /// Whether a list counts anything.
     pub(crate) fn has_counts(&self, list: usize) -> bool {
         self.counts.has(list) || self.words.has(list)
     }
@@ -198,118 +177,94 @@ impl<'a> ArenaSearch<'a> {
 
     /// Has the edges back at hand.
     pub(crate) fn want_back(&mut self) {
-        if self.back.is_empty() {
-            self.back = self.arena.forth.reversed(self.alloc);
+        if self.back.items.is_empty() {
+            self.back = edges_back(self.alloc, &self.arena.forth);
         }
     }
 
-    /// A node of the component, by its place among them.
-    pub(crate) fn member(&self, place: usize) -> SearchNode {
-        self.arena.node(self.order.get_or(place, NONE))
+    /// The nodes of the component that no others stand for, each after those below it.
+    pub(crate) fn members(&self) -> &'a [SearchNode] {
+        self.arena.members.row(self.part.root, 0)
     }
 
-    fn solve_all(&mut self) {
-        for root in (0..self.arena.count()).rev() {
-            if self.arena.node(root).root == root && self.left > 0 {
-                self.solve(root);
-            }
-        }
+    /// The nodes outside to which they lead.
+    pub(crate) fn exits(&self) -> &'a [SearchNode] {
+        self.arena.exits.row(self.part.root, 0)
     }
 
-    // Finds who wins the nodes of the component with this root, where it is known of those below it.
+    // Finds who wins the nodes of the component with this root, if it is one, where it is known of those below it.
     fn solve(&mut self, root: usize) {
-        self.part = NodeComponent::of(self.arena, root);
+        if self.arena.node(root).root != root || self.left == 0 {
+            return;
+        }
+        self.part = self.arena.part(root);
         self.place = self.layout.place(self.part.least);
-        self.order.clear();
-        self.exits.clear();
-        self.are_timed = false;
-        for number in (root..self.arena.count()).rev() {
-            let node = self.arena.node(number);
-            self.enter(node);
-        }
+        let may_count = self.part.is_cyclic && self.arena.is_exact;
+        self.are_timed = may_count && self.exits().iter().any(|exit| self.is_timed(exit.number));
         self.play();
-        for place in 0..self.order.len() {
-            self.conclude(self.member(place).number);
-        }
+        self.conclude();
         if self.arena.is_exact {
             self.lift_part();
         }
     }
 
-    // Enters a node of the component, and its children that are outside.
-    fn enter(&mut self, node: SearchNode) {
-        if !self.part.has(node) || self.arena.is_replaced(node) {
-            return;
-        }
-        self.order.push(node.number);
-        self.most = self.most.max(node.height);
-        for child in [node.first, node.second] {
-            if child != NONE && !self.part.has(self.arena.node(child)) {
-                self.enter_exit(child);
-            }
-        }
-    }
-
     // Has rounds follow each other until no block goes on.
     fn play(&mut self) {
-        let mut block = self.part.blocks;
+        let mut end = self.part.blocks;
         for _ in 0..u64::MAX {
-            self.begin(block);
+            self.begin(end);
             self.climb();
-            block = self.close_rounds();
-            if block >= self.part.blocks || self.left == 0 {
-                break;
+            // The innermost block whose rounds go on.
+            let next = (1..self.part.blocks).find(|block| self.close_round(*block));
+            match next {
+                Some(block) if self.left > 0 => end = block,
+                _ => break,
             }
         }
     }
 
     // Begins the blocks inside this one.
     fn begin(&mut self, end: usize) {
-        let vertices = self.order.len().saturating_mul(self.arena.states);
-        self.pay(vertices / 16);
+        let members = self.members();
+        self.pay(members.len().saturating_mul(self.arena.states) / 16);
         if !self.is_whole() {
             self.left = 0;
         }
         for block in (0..end).rev() {
             self.rounds.set(block, 0);
-            for place in 0..self.order.len() {
-                self.begin_node(block, self.member(place));
+            for node in members {
+                self.begin_node(block, *node);
             }
         }
-        for place in 0..self.exits.len() {
-            let number = self.exits.get_or(place, NONE);
-            self.begin_exit(number);
+        for exit in self.exits() {
+            self.begin_node(0, *exit);
+            self.await_exit(exit.number);
         }
     }
 
     // All that is gained before the first level is new in it.
     fn begin_node(&mut self, block: usize, node: SearchNode) {
         let SearchNode { number, first, .. } = node;
-        let own = self.part.block(node);
         let row = self.row(block, number);
+        let is_known = !self.part.has(node) || self.part.block(node) > block;
         let is_won = first == NONE && !self.part.wants_one(node);
         self.news.set(number, false);
         self.cursors.clear(number);
-        for word in 0..self.gain.width() {
-            let bits = if own > block {
-                self.held(block, own, number, word)
+        for word in 0..self.gain.width {
+            let bits = if is_known {
+                self.status(node, block, word)
             } else if is_won {
                 self.gain.all(word)
             } else {
                 self.given(block, number, word)
             };
-            self.begin_word(row, number, word, bits);
-            if block == 0 && self.arena.is_exact {
+            self.gain.set_word(row, word, bits);
+            if bits != 0 {
+                self.news.set(number, true);
+            }
+            if block == 0 && self.arena.is_exact && self.part.has(node) {
                 self.count_all(number, word, bits, 0);
             }
-        }
-    }
-
-    /// A node, or one outside, begins with these states.
-    pub(crate) fn begin_word(&mut self, row: usize, number: usize, word: usize, bits: u64) {
-        self.gain.set_word(row, word, bits);
-        if bits != 0 {
-            self.news.set(number, true);
         }
     }
 
@@ -335,43 +290,25 @@ impl<'a> ArenaSearch<'a> {
 
     // What the player of a block has of a node once the blocks inside it have ended.
     fn status(&self, node: SearchNode, block: usize, word: usize) -> u64 {
-        let own = self.part.block(node);
-        if !self.part.has(node) {
-            self.exit(block, node.number, word)
-        } else if own < block {
-            self.held(block, block.wrapping_sub(1), node.number, word)
+        if self.part.has(node) {
+            let by = self.part.block(node).max(block.saturating_sub(1));
+            self.held(block, by, node.number, word)
         } else {
-            self.held(block, own, node.number, word)
+            self.exit(block, node.number, word)
         }
     }
 
-    // Ends the round of each block that is inside all others that go on. The answer is the first one that does, or how many blocks there are.
-    fn close_rounds(&mut self) -> usize {
-        for block in 1..self.part.blocks {
-            if self.close_round(block) {
-                return block;
-            }
-        }
-        self.part.blocks
-    }
-
-    // What the player of the blocks inside hasn't gained is gained by that of the block. The answer is whether another round has to follow.
+    // Ends a round: what the player of the blocks inside hasn't gained is gained by that of the block. The answer is whether another round has to follow.
     fn close_round(&mut self, block: usize) -> bool {
         self.pay(self.arena.states / 16);
-        for place in 0..self.order.len() {
-            let node = self.member(place);
-            let own = self.part.block(node);
-            if own < block {
-                self.gain_rest(block, node);
-            } else if own == block {
-                self.find_fresh(block, node);
-            }
+        for node in self.members() {
+            self.find_fresh(block, *node);
         }
         let round = self.rounds.get_or(block, 0);
         self.rounds.set(block, round.saturating_add(1));
         self.lost.clear();
-        for place in 0..self.order.len() {
-            self.gain_fresh(block, self.member(place));
+        for node in self.members() {
+            self.gain_fresh(block, *node);
         }
         if self.lost.is_empty() {
             return self.wait_for_exits(block, round);
@@ -379,40 +316,34 @@ impl<'a> ArenaSearch<'a> {
         block > 1 || self.are_timed || self.repair_rounds()
     }
 
-    // A block's player gains the states of a node that the other one hasn't gained inside.
-    fn gain_rest(&mut self, block: usize, node: SearchNode) {
-        let row = self.row(block, node.number);
-        for word in 0..self.gain.width() {
-            let rest = self.held(block, block.wrapping_sub(1), node.number, word);
-            let fresh = rest & !self.gain.word(row, word);
-            self.note(block, node, word, fresh);
-        }
-    }
-
-    // Finds the states of a binder that its block's player gains by the binder's child.
+    // A block's player gains what the other one hasn't gained of a node inside. What it is to gain of a binder of the block by the binder's child waits.
     fn find_fresh(&mut self, block: usize, node: SearchNode) {
-        let row = self.row(block, node.number);
+        let own = self.part.block(node);
+        if own > block {
+            return;
+        }
         let child = self.arena.node(node.first);
-        for word in 0..self.gain.width() {
-            let fresh = self.status(child, block, word) & !self.gain.word(row, word);
-            self.next.set_word(node.number, word, fresh);
+        for word in 0..self.gain.width {
+            let gained = self.gain.word(self.row(block, node.number), word);
+            if own < block {
+                let rest = self.status(node, block, word) & !gained;
+                self.note(block, node, word, rest);
+            } else {
+                let fresh = self.status(child, block, word) & !gained;
+                self.next.set_word(node.number, word, fresh);
+            }
         }
     }
 
-    // A block's player gains these states, which that of the innermost block may lose.
+    // A block's player gains what waits. That of the innermost block may lose it, which is listed until there is so much of it that a climb has to follow.
     fn gain_fresh(&mut self, block: usize, node: SearchNode) {
-        for word in 0..self.gain.width() {
+        for word in 0..self.gain.width {
             let bits = self.next.taken(node.number, word);
             self.note(block, node, word, bits);
-            self.list_lost(node.number, word, bits);
-        }
-    }
-
-    // Lists what is lost, until there is so much of it that a climb has to follow.
-    fn list_lost(&mut self, node: usize, word: usize, bits: u64) {
-        if self.lost.len() <= self.many_lost() {
             for state in states_of(word, bits) {
-                self.lost.push(Vertex { node, state });
+                if self.lost.len() <= self.many_lost() {
+                    self.lost.push((node.number, state));
+                }
             }
         }
     }
@@ -435,41 +366,21 @@ impl<'a> ArenaSearch<'a> {
         let unit = self.layout.unit(self.part.priority(block));
         let rounds = unit.wrapping_mul(u64::from(round));
         for state in states_of(word, bits) {
-            let counted = if is_inner {
-                self.counted(inner, state)
-            } else {
-                0
-            };
+            let counted = self.counted(inner, state);
+            let counted = if is_inner { counted } else { 0 };
             self.count(list, state, rounds.wrapping_add(counted));
         }
     }
 
-    // Keeps who wins a node.
-    fn conclude(&mut self, number: usize) {
+    // Keeps who wins the nodes.
+    fn conclude(&mut self) {
         let last = self.part.blocks.wrapping_sub(1);
         let odds = usize::from(self.part.is_evens(0));
-        for word in 0..self.gain.width() {
-            let odd = self.held(odds, last, number, word);
-            self.odd.set_word(number, word, odd);
+        for node in self.members() {
+            for word in 0..self.gain.width {
+                let odd = self.held(odds, last, node.number, word);
+                self.odd.set_word(node.number, word, odd);
+            }
         }
-    }
-
-    #[inline(always)]
-    pub(crate) fn is_done(&self, vertex: Vertex) -> bool {
-        self.gain.has(vertex.node, vertex.state)
-    }
-
-    /// A level, in its field.
-    #[inline(always)]
-    pub(crate) fn leveled(&self, level: u32) -> u64 {
-        u64::from(level) << (self.place % u64::BITS)
-    }
-
-    /// The player of the innermost block gains a vertex at a level.
-    #[inline(always)]
-    pub(crate) fn settle(&mut self, vertex: Vertex, level: u32) {
-        let Vertex { node, state } = vertex;
-        self.gain.add(node, word_of(state), bit(state));
-        self.count(node, state, self.leveled(level));
     }
 }

@@ -8,21 +8,13 @@ use std::alloc::Global;
 // How many states have their bits in one word.
 const WORD: usize = 64;
 
-/// The bit of a state in its word.
-#[inline(always)]
+/// A state's bit in its word, and that word.
 pub(crate) fn bit(state: usize) -> u64 {
     1_u64 << (state % WORD)
 }
 
-/// The word of a state.
-#[inline(always)]
 pub(crate) fn word_of(state: usize) -> usize {
     state / WORD
-}
-
-/// How many states a word has.
-pub(crate) fn count(bits: u64) -> usize {
-    bits.count_ones() as usize
 }
 
 /// The states of a word.
@@ -63,8 +55,9 @@ impl Iterator for States {
 /// Sets of states below a number, each in a row of its own.
 #[derive(Drop)]
 pub(crate) struct Sets {
-    words: List<u64>,
-    width: usize,
+    /// The words of all sets, one set after another, and how many words a set has.
+    pub(crate) words: List<u64>,
+    pub(crate) width: usize,
     // The bits of the last word that are states.
     tail: u64,
 }
@@ -73,36 +66,14 @@ impl Sets {
     /// So many sets of no state.
     pub(crate) fn new(alloc: Global, rows: usize, states: usize) -> Self {
         let width = states.div_ceil(WORD);
-        let rest = states % WORD;
         Sets {
             words: List::filled(alloc, rows.saturating_mul(width), 0),
             width,
-            tail: if rest == 0 {
-                u64::MAX
-            } else {
-                bit(rest).wrapping_sub(1)
-            },
+            tail: u64::MAX >> (states.wrapping_neg() % WORD),
         }
     }
 
-    /// Whether there was memory for all.
-    pub(crate) fn is_whole(&self) -> bool {
-        self.words.is_whole()
-    }
-
-    /// The words of all sets, one set after another.
-    pub(crate) fn into_words(self) -> Vec<u64> {
-        let Sets { words, .. } = self;
-        words.into_items()
-    }
-
-    /// How many words a set has.
-    pub(crate) fn width(&self) -> usize {
-        self.width
-    }
-
     /// All states of a word.
-    #[inline(always)]
     pub(crate) fn all(&self, word: usize) -> u64 {
         if word.wrapping_add(1) == self.width {
             self.tail
@@ -111,31 +82,25 @@ impl Sets {
         }
     }
 
-    #[inline(always)]
     fn place(&self, row: usize, word: usize) -> usize {
         row.wrapping_mul(self.width).wrapping_add(word)
     }
 
-    #[inline(always)]
     pub(crate) fn word(&self, row: usize, word: usize) -> u64 {
         self.words.get_or(self.place(row, word), 0)
     }
 
-    #[inline(always)]
     pub(crate) fn set_word(&mut self, row: usize, word: usize, bits: u64) {
         let place = self.place(row, word);
         self.words.set(place, bits)
     }
 
     /// Adds the states of a word.
-    #[inline(always)]
     pub(crate) fn add(&mut self, row: usize, word: usize, bits: u64) {
-        let place = self.place(row, word);
-        self.words.set(place, self.words.get_or(place, 0) | bits)
+        self.set_word(row, word, self.word(row, word) | bits)
     }
 
     /// Takes the states of a word away, and answers them.
-    #[inline(always)]
     pub(crate) fn taken(&mut self, row: usize, word: usize) -> u64 {
         let bits = self.word(row, word);
         if bits != 0 {
@@ -144,12 +109,10 @@ impl Sets {
         bits
     }
 
-    #[inline(always)]
     pub(crate) fn has(&self, row: usize, state: usize) -> bool {
         self.word(row, word_of(state)) & bit(state) != 0
     }
 
-    #[inline(always)]
     pub(crate) fn put(&mut self, row: usize, state: usize) {
         self.add(row, word_of(state), bit(state))
     }
@@ -157,14 +120,5 @@ impl Sets {
     pub(crate) fn remove(&mut self, row: usize, state: usize) {
         let word = word_of(state);
         self.set_word(row, word, self.word(row, word) & !bit(state))
-    }
-
-    /// How many states a set has.
-    pub(crate) fn size(&self, row: usize) -> usize {
-        let mut size = 0_usize;
-        for word in 0..self.width {
-            size = size.wrapping_add(count(self.word(row, word)));
-        }
-        size
     }
 }
