@@ -237,6 +237,7 @@ impl ArenaSearch<'_> {
         }
     }
 
+    #[inline(always)]
     fn carry_back(&mut self, node: SearchNode, state: usize, change: Change) {
         for place in self.back.places(state) {
             let edge = self.back.items.get_or(place, 0);
@@ -258,6 +259,7 @@ impl ArenaSearch<'_> {
     }
 
     // Lists a vertex that has a new child or successor, if it is gained by that.
+    #[inline(always)]
     fn reach(&mut self, node: SearchNode, state: usize) {
         let is_ready = if self.part.wants_one(node) {
             true

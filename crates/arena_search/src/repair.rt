@@ -72,6 +72,7 @@ impl ArenaSearch<'_> {
     }
 
     /// A vertex that is gained is lost where its children's levels don't support its own any more.
+    #[inline(always)]
     pub(crate) fn lose(&mut self, node: SearchNode, state: usize) {
         let number = node.number;
         if !self.is_given(number, state) && self.level(node, state) > self.level_at(number, state) {
