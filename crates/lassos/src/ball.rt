@@ -22,9 +22,9 @@ pub(crate) struct Place {
     pub(crate) far: u32,
     /// The place before, on one of the shortest ways to it.
     pub(crate) before: u32,
-    // Where the ways on from it stand among all.
-    start: u32,
-    end: u32,
+    // Where the ways on from it begin among all, and where those end that lead to places.
+    pub(crate) start: u32,
+    pub(crate) end: u32,
 }
 
 /// The vertices that have a place. The first is the one from which plays begin.
@@ -32,6 +32,7 @@ pub(crate) struct Place {
 pub(crate) struct Ball<'g> {
     pub(crate) field: Field<'g>,
     places: List<Place>,
+    // For each place in turn the vertices to which ways lead. Once the search has gone on from it, the places of these stand at the front.
     ways: List<u32>,
     // The place of each vertex of the game.
     of_vertices: List<u32>,
@@ -82,7 +83,7 @@ impl<'g> Ball<'g> {
             let Some((place, by_step)) = self.order.next(self.places.len()) else {
                 break;
             };
-            self.add_ways(number(place), by_step);
+            self.add_ways(place, by_step);
         }
         if self.places.is_whole() && self.ways.is_whole() && self.of_vertices.is_whole() {
             Ok(())
@@ -92,38 +93,49 @@ impl<'g> Ball<'g> {
     }
 
     // Adds the ways from a place, if it takes a step to go on from there, or if it takes none.
-    fn add_ways(&mut self, before: u32, by_step: bool) {
+    fn add_ways(&mut self, place: usize, by_step: bool) {
+        let before = number(place);
         let from = self.at(before);
         if from.is_step != by_step {
             return;
         }
-        let start = number(self.ways.len());
         let far = from.far.saturating_add(u32::from(by_step));
-        for v in self.field.ways(from.vertex) {
-            if let Some(place) = self.place(*v, far, before) {
-                self.ways.push(place);
+        let mut end = from.start;
+        let next = Place {
+            start: number(self.ways.len()),
+            ..Place::default()
+        };
+        let next = self.places.get_or(place.saturating_add(1), next);
+        for way in from.start..next.start {
+            let vertex = self.ways.get_or(way as usize, u32::MAX);
+            if let Some(place) = self.place(vertex, far, before) {
+                self.ways.set(end as usize, place);
+                end = end.saturating_add(1);
             }
         }
-        let end = number(self.ways.len());
-        self.places
-            .set(before as usize, Place { start, end, ..from });
+        self.places.set(place, Place { end, ..from });
     }
 
-    // The place of a vertex, if the player wins it. It is added where there is none yet.
+    // The place of a vertex, if the player wins it and a play can go on. It is added where there is none yet.
     fn place(&mut self, vertex: u32, far: u32, before: u32) -> Option<u32> {
         let known = self.of_vertices.get_or(vertex as usize, LOST);
         if known != UNMET {
             return (known != LOST).then_some(known);
         }
+        let Some((found, ways)) = self.field.place(vertex) else {
+            self.of_vertices.set(vertex as usize, LOST);
+            return None;
+        };
         let place = self.len();
+        let start = number(self.ways.len());
         self.of_vertices.set(vertex as usize, place);
+        self.ways.extend(ways);
         self.places.push(Place {
-            vertex,
-            priority: self.field.view(vertex).priority,
-            is_step: self.field.is_step(vertex),
             far,
             before,
-            ..Place::default()
+            start,
+            end: start,
+            ..found
         });
         Some(place)
     }

@@ -35,15 +35,10 @@ pub(crate) fn find_lasso(
 fn play_back(alloc: Global, ball: &Ball, places: &[u32]) -> Result<List<u32>, AllocError> {
     let first = places.iter().copied().min().unwrap_or(0);
     let entry = places.iter().position(|place| *place == first).unwrap_or(0);
+    let (front, rest) = places.split_at(entry.saturating_add(1).min(places.len()));
     let mut play = List::none(alloc);
-    for turn in 0..places.len().saturating_mul(2) {
-        let next = entry
-            .saturating_add(turn)
-            .saturating_add(1)
-            .checked_rem(places.len());
-        if let Some(place) = places.get(next.unwrap_or(0)) {
-            play.push(ball.at(*place).vertex);
-        }
+    for place in rest.iter().chain(front).chain(rest).chain(front) {
+        play.push(ball.at(*place).vertex);
     }
     push_way_back(&mut play, ball, first);
     whole(play)
