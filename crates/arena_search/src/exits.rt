@@ -1,5 +1,4 @@
-// Nodes outside a component. Where no measures are wanted all that is won there is gained at once; else at the level, or in the round, that its
-// measure says.
+// Nodes outside a component. What is won there is gained at once where no measures are wanted; else at the level, or in the round, of its measure.
 
 use crate::climb::Change;
 use crate::search::ArenaSearch;

@@ -49,6 +49,7 @@ impl ArenaSearch<'_> {
     }
 
     // The measure of the successor by which a vertex is won: the least one where the winner chooses, else the greatest one.
+    #[inline(always)]
     fn followed(&self, node: SearchNode, state: usize, is_odd: bool) -> u64 {
         let chooses = node.is_odds == is_odd;
         let better = |best: u64, number: usize, state: usize| {

@@ -105,6 +105,7 @@ impl FoundMeasures<'_> {
     }
 
     // Writes the row of a vertex from a place on: its number, and a height at each count of the winner's, where there is anything to count.
+    #[inline(always)]
     fn write(&self, rows: &mut List<u64>, first: usize, node: SearchNode, state: usize) {
         let ArenaSearch { arena, layout, .. } = &self.search;
         let above = layout.group(arena, node);

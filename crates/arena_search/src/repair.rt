@@ -1,5 +1,4 @@
-// Rounds just outside the innermost block that change little: what rests on what is lost is taken away, and what has another support gained again, at
-// the levels that a climb would find.
+// Rounds just outside the innermost block that change little: what rests on what is lost is taken away, and gained again at its level if it can be.
 
 use crate::arena::{NONE, SearchNode};
 use crate::climb::Change;
