@@ -10,7 +10,6 @@ use game::list::List;
 use std::alloc::Global;
 use systems::system::Lts;
 
-/// No node.
 pub(crate) const NONE: usize = NO_CHILD as usize;
 
 const NO_CHILD: u32 = u32::MAX;

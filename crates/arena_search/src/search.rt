@@ -214,7 +214,6 @@ impl<'a> ArenaSearch<'a> {
         for _ in 0..u64::MAX {
             self.begin(end);
             self.climb();
-            // The innermost block whose rounds go on.
             let next = (1..self.part.blocks).find(|block| self.close_round(*block));
             match next {
                 Some(block) if self.left > 0 => end = block,

@@ -63,7 +63,6 @@ pub(crate) struct Sets {
 }
 
 impl Sets {
-    /// So many sets of no state.
     pub(crate) fn new(alloc: Global, rows: usize, states: usize) -> Self {
         let width = states.div_ceil(WORD);
         Sets {

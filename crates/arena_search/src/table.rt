@@ -105,8 +105,11 @@ impl<T: Copy + Drop + PartialEq> NumberLists<T> {
 
     /// Makes all numbers of a list zeros.
     pub(crate) fn clear(&mut self, list: usize) {
+        let zero = self.zero;
         if list < self.lists.len() {
-            self.lists[list].fill(self.zero);
+            for place in 0..self.lists[list].len() {
+                self.set(list, place, zero);
+            }
         }
     }
 }
