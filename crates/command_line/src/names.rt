@@ -138,7 +138,8 @@ pub fn is_drawing(name: &str) -> bool
     has_ending(name.as_bytes(), b".dot") || has_ending(name.as_bytes(), b".gv")
 }
 
-fn has_ending(name: &[u8], ending: &[u8]) -> bool
+/// Whether the name ends so, whatever letters are capital ones.
+pub fn has_ending(name: &[u8], ending: &[u8]) -> bool
     ensures { IsTrue result ↔ HasEnding ending.now name.now }
 {
     if name.len() < ending.len() {

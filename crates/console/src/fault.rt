@@ -31,10 +31,8 @@ pub fn tell_fault(rt: &HostRuntime, system: &Lts, strict: bool, name: &str) {
 fn fault_of(rt: &HostRuntime, system: &Lts, strict: bool, name: &str) -> Option<MuError> {
     let formula = open(rt, name).ok()?;
     let text = read_front(rt.alloc(), formula).ok()?;
-    match parse_front(rt.alloc(), &text).err() {
-        None => look_where(rt.alloc(), system, &text, strict).err(),
-        Some(error) => Some(error),
-    }
+    let refusal = parse_front(rt.alloc(), &text).err();
+    refusal.or_else(|| look_where(rt.alloc(), system, &text, strict).err())
 }
 
 /// Notes that one of the first two lines nearly says what is expected, where the first one doesn't say it. What came from standard input or a pipe

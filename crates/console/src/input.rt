@@ -47,13 +47,11 @@ pub fn open(rt: &HostRuntime, name: &str) -> Result<Input, Refusal> {
             size: None,
         });
     }
-    match File::open(rt, name) {
-        Ok(file) => Ok(Input {
-            source: InputSource::File(file),
-            size: size_of(rt, name),
-        }),
-        Err(error) => Err(Refusal::of_file(rt, name, error)),
-    }
+    let file = File::open(rt, name).map_err(|error| Refusal::of_file(rt, name, error))?;
+    Ok(Input {
+        source: InputSource::File(file),
+        size: size_of(rt, name),
+    })
 }
 
 /// What tells labels of a system apart as they are read: by a seed that is new in each run, so nobody can make labels that meet.

@@ -274,9 +274,7 @@ impl<T: Wait + Clock> ProgressLine<'_, T> {
     }
 
     fn tell_ended(&self, ended: Option<Running>) {
-        if let Some(ended) = ended {
-            self.tell_made(ended.ended(self.rt, self.handle));
-        }
+        self.tell_made(ended.and_then(|ended| ended.ended(self.rt, self.handle)));
     }
 }
 

@@ -12,57 +12,33 @@ use std::sync::Wait;
 
 /// Where a text goes. What is written to the program's own output is put behind what stands there.
 #[derive(Drop)]
-enum OutputTarget {
+pub(crate) enum Target {
     File(File),
     Output,
     ErrorOutput,
-}
-
-/// Where a text goes, and whether that is a terminal.
-#[derive(Drop)]
-pub(crate) struct Target {
-    sink: OutputTarget,
-    is_shown: bool,
 }
 
 impl Target {
     /// The file of this name, which is made, or the program's own output.
     pub(crate) fn named(rt: &HostRuntime, name: &str) -> io::Result<Target> {
         Ok(match name {
-            "/dev/stdout" => Target::output(rt),
-            "/dev/stderr" => Target {
-                sink: OutputTarget::ErrorOutput,
-                is_shown: rt.stderr().is_terminal(),
-            },
-            _ => {
-                let file = File::create(rt, name)?;
-                let is_shown = file.is_terminal();
-                Target {
-                    sink: OutputTarget::File(file),
-                    is_shown,
-                }
-            }
+            "/dev/stdout" => Target::Output,
+            "/dev/stderr" => Target::ErrorOutput,
+            _ => Target::File(File::create(rt, name)?),
         })
-    }
-
-    fn output(rt: &HostRuntime) -> Target {
-        Target {
-            sink: OutputTarget::Output,
-            is_shown: rt.stdout().is_terminal(),
-        }
     }
 
     /// Writes there as `Write::write`, but that bytes which nobody reads any more are done with.
     pub(crate) fn write(&self, rt: &HostRuntime, bytes: &[u8]) -> io::Result<usize>
         ensures { IfOk result (λ n. n ≤ length bytes.now) }
     {
-        let written = match &self.sink {
-            OutputTarget::File(file) => {
+        let written = match self {
+            Target::File(file) => {
                 let mut file = file;
                 file.write(bytes)
             }
-            OutputTarget::Output => io::writer(rt).write(bytes),
-            OutputTarget::ErrorOutput => rt.stderr().write(bytes),
+            Target::Output => io::writer(rt).write(bytes),
+            Target::ErrorOutput => rt.stderr().write(bytes),
         };
         match written {
             Err(error) if error.kind() == ErrorKind::BrokenPipe => Ok(bytes.len()),
@@ -76,7 +52,8 @@ impl Target {
 pub struct Output<'a, T> {
     rt: HostRuntime,
     line: &'a ProgressLine<'a, T>,
-    target: Target,
+    /// It is a terminal.
+    is_shown: bool,
     /// What the system says of the last write that failed.
     fault: Option<io::Error>,
 }
@@ -87,7 +64,7 @@ impl<'a, T> Output<'a, T> {
         Output {
             rt,
             line,
-            target: Target::output(&rt),
+            is_shown: rt.stdout().is_terminal(),
             fault: None,
         }
     }
@@ -104,10 +81,10 @@ impl<'a, T> Output<'a, T> {
 
 impl<T: Wait> Write for Output<'_, T> {
     fn write(&mut self, bytes: &[u8]) -> io::Result<usize> {
-        if self.target.is_shown {
+        if self.is_shown {
             self.line.end();
         }
-        match self.target.write(&self.rt, bytes) {
+        match Target::Output.write(&self.rt, bytes) {
             Err(error) => {
                 let kind = error.kind();
                 self.fault = Some(error);

@@ -60,18 +60,15 @@ impl From<MuError> for Refusal {
 }
 
 /// The file that a refusal speaks of, or both where it is one of two.
-fn refused<'a>(
-    files: &[Option<&'a str>; 4],
-    error: &MuError,
-) -> (Option<&'a str>, Option<&'a str>) {
+fn refused<'a>(files: &[Option<&'a str>; 4], error: &MuError) -> [Option<&'a str>; 2] {
     let [main, formula, evidence, other] = *files;
     match error {
-        MuError::System(_) | MuError::Game(_) => (main, None),
-        MuError::Formula(_) | MuError::NoLabel { .. } => (formula, None),
-        MuError::Read => (formula, evidence),
-        MuError::Evidence(_) => (evidence, other),
-        MuError::Schedule(_) => (evidence, None),
-        _ => (None, None),
+        MuError::System(_) | MuError::Game(_) => [main, None],
+        MuError::Formula(_) | MuError::NoLabel { .. } => [formula, None],
+        MuError::Read => [formula, evidence],
+        MuError::Evidence(_) => [evidence, other],
+        MuError::Schedule(_) => [evidence, None],
+        _ => [None, None],
     }
 }
 
@@ -123,18 +120,15 @@ fn quoted(text: &str) -> Option<&str> {
 /// What follows the line of this text.
 fn tell_rest(
     rt: &HostRuntime,
-    files: (Option<&str>, Option<&str>),
+    files: [Option<&str>; 2],
     text: &str,
     cause: Option<&Cause>,
 ) -> io::Result<()> {
-    let (code, words) = match text.split_once(" at ") {
-        Some((code, words)) => (code, Some(words)),
-        None => (text, None),
-    };
+    let (code, words) = text.split_once(" at ").unwrap_or((text, ""));
     if let Some(Cause { name, error }) = cause {
         return tell_cause(rt, code, name.as_str(), error);
     }
-    for name in [files.0, files.1].into_iter().flatten() {
+    for name in files.iter().flatten() {
         if READ_FAULTS.contains(&code)
             && let Some(error) = unreadable(rt, name)
         {
@@ -167,20 +161,21 @@ fn unreadable(rt: &HostRuntime, name: &str) -> Option<io::Error> {
 fn tell_in_files(
     rt: &HostRuntime,
     code: &str,
-    files: (Option<&str>, Option<&str>),
-    words: Option<&str>,
+    files: [Option<&str>; 2],
+    words: &str,
 ) -> io::Result<()> {
-    match (files, words) {
-        ((Some(name), None), Some(words)) => return tell_at(rt, code, name, words),
-        ((Some(name), None), None) => eprintln!(rt; "mucheck: in {}", FileName(name))?,
-        ((Some(name), Some(other)), words) => {
-            eprint!(rt; "mucheck: in {} or {}", FileName(name), FileName(other))?;
-            match words {
-                Some(words) => eprintln!(rt; ", {words}")?,
-                None => say(rt, &["\n"])?,
-            }
+    let comma = if words.is_empty() { "" } else { ", " };
+    match files {
+        [Some(name), None] if words.is_empty() => eprintln!(rt; "mucheck: in {}", FileName(name))?,
+        [Some(name), None] => return tell_at(rt, code, name, words),
+        [Some(name), Some(other)] => {
+            eprintln!(rt;
+                "mucheck: in {} or {}{comma}{words}",
+                FileName(name),
+                FileName(other)
+            )?;
         }
-        ((None, _), _) => {}
+        [None, _] => {}
     }
     tell_end(rt, code, NOTHING_FOUND)
 }

@@ -1,7 +1,7 @@
 // Whether two names are those of one file: links, and names with other folders in front.
 
 use crate::told::FileName;
-use command_line::names::{EvidenceNames, is_device};
+use command_line::names::{EvidenceNames, has_ending, is_device};
 use command_line::request::Command;
 use requests::error::{ArgumentError, CheckFile, MuError};
 use requests::request::ReportForm;
@@ -47,19 +47,13 @@ pub fn keep_apart(
         return Err(refused(String::from_str(rt.alloc(), NO_PICTURE)));
     }
     let [main, formula, ..] = command.files();
+    let even = evidence.map(|names| names.even.as_str());
+    let odd = evidence.map(|names| names.odd.as_str());
     all_apart(
         &[
             place_of(rt, CheckFile::Game, outputs.game),
-            place_of(
-                rt,
-                CheckFile::EvenEvidence,
-                evidence.map(|names| names.even.as_str()),
-            ),
-            place_of(
-                rt,
-                CheckFile::OddEvidence,
-                evidence.map(|names| names.odd.as_str()),
-            ),
+            place_of(rt, CheckFile::EvenEvidence, even),
+            place_of(rt, CheckFile::OddEvidence, odd),
             place_of(rt, CheckFile::Witness, outputs.witness),
             reported(rt, outputs.report),
         ],
@@ -74,10 +68,9 @@ pub fn keep_apart(
 /// Whether the name ends as that of a picture, which isn't written.
 fn is_picture(name: &str) -> bool {
     let name = name.as_bytes();
-    PICTURES.iter().any(|ending| {
-        let start = name.len().saturating_sub(ending.len());
-        name[start..].eq_ignore_ascii_case(ending.as_bytes())
-    })
+    PICTURES
+        .iter()
+        .any(|ending| has_ending(name, ending.as_bytes()))
 }
 
 /// Refuses a command whose answer would go to a file that it reads.
@@ -167,14 +160,9 @@ fn identify_in_folder<'a>(rt: &HostRuntime, name: &'a str) -> Option<Identity<'a
 }
 
 fn apart_from(one: &NamedFile<'_>, others: &[NamedFile<'_>]) -> Result<(), ArgumentError> {
-    let Some(own) = one.identity else {
-        return Ok(());
-    };
+    let own = one.identity.is_some();
     for other in others {
-        if let Some(identity) = other.identity
-            && identity == own
-            && !(one.is_own && other.is_own)
-        {
+        if own && other.identity == one.identity && !(one.is_own && other.is_own) {
             return Err(ArgumentError::SameFile(one.file, other.file));
         }
     }

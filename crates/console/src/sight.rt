@@ -99,12 +99,8 @@ fn find_at_line(
     reader: &mut BufReader<File>,
     line: usize,
 ) -> io::Result<Finding> {
-    let before = line.saturating_sub(1);
-    let text = if skip_lines(reader, before)? == before {
-        front_of_line(alloc, reader, LOOKED_AT)?
-    } else {
-        Vec::new(alloc)
-    };
+    skip_lines(reader, line.saturating_sub(1))?;
+    let text = front_of_line(alloc, reader, LOOKED_AT)?;
     let wrong = match code {
         "A5" => count_lines(alloc, reader)?,
         "A7" => wrong_in_line(alloc, &text)?,

@@ -20,40 +20,21 @@ pub fn run_solve<T: TimedRuntime>(
     files: &Files<'_>,
 ) -> Result<bool, Refusal> {
     let game = open(rt, request.game)?;
-    let stats = if request.stats {
-        Stats::Stages
-    } else {
-        Stats::Nothing
-    };
+    let stats = Stats::of(request.stats, true, request.options.priorities);
     let line = ProgressLine::new(*rt, threads, stats, None);
     let ticker = line.start();
     line.step(Activity::ReadingGame);
-    let game = CountedInput::new(game, &line);
-    let answer = solve_to(rt, threads, request, game, files, &line);
-    line.finish(ticker);
-    drop(line);
-    answer
-}
-
-/// Solves the game, and writes to the files that are asked for and to standard output.
-fn solve_to<T: TimedRuntime>(
-    rt: &HostRuntime,
-    threads: &T,
-    request: &Solve<'_>,
-    game: CountedInput<'_>,
-    files: &Files<'_>,
-    line: &ProgressLine<'_, T>,
-) -> Result<bool, Refusal> {
-    let mut out = Output::new(*rt, line);
+    let mut out = Output::new(*rt, &line);
     let answer = solve_asked(
         threads,
         rt.alloc(),
         request,
-        game,
+        CountedInput::new(game, &line),
         &mut files.even(),
         &mut files.odd(),
         &mut out,
-        line,
+        &line,
     );
+    line.finish(ticker);
     out.conclude(answer)
 }

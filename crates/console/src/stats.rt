@@ -2,7 +2,6 @@
 
 use crate::size::Size;
 use calculus::closed::Closed;
-use calculus::form::Normal;
 use calculus::priorities::Priorities;
 use game::observer::Stage;
 use lts::system::Lts;
@@ -21,7 +20,7 @@ pub enum Stats {
 }
 
 impl Stats {
-    /// What is told of a check or a table where that is asked for, by sets of states or by the game.
+    /// What is told where that is asked for: of the game of both texts, unless there is none, as by sets of states.
     pub fn of(is_asked: bool, plain: bool, rule: Priorities) -> Stats {
         match (is_asked, plain) {
             (false, _) => Stats::Nothing,
@@ -87,18 +86,16 @@ pub(crate) fn game_told(
 ) -> Option<String> {
     let normal = normal_with(alloc, formula, rule).ok()?;
     let Size { vertices, edges } = Size::of(alloc, system, &normal).ok()?;
-    let (nodes, greatest) = (normal.count(), greatest_priority(&normal));
+    let nodes = normal.count();
+    let greatest = normal
+        .nodes()
+        .iter()
+        .map(|node| node.priority)
+        .max()
+        .unwrap_or(0);
     format!(in alloc;
         "mucheck: {nodes} nodes, greatest priority {greatest}, {vertices} vertices, {edges} edges\n"
     ).ok()
-}
-
-fn greatest_priority(normal: &Normal) -> u32 {
-    let mut greatest = 0;
-    for k in 0..normal.count() {
-        greatest = normal.priority(k).max(greatest);
-    }
-    greatest
 }
 
 impl fmt::Display for Activity {

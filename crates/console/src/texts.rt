@@ -30,9 +30,7 @@ pub fn run_labels<T: TimedRuntime>(
     let line = ProgressLine::new(*rt, threads, Stats::Nothing, None);
     let mut out = Output::new(*rt, &line);
     let answer = labels_text(rt.alloc(), hasher, system, formula, &mut out);
-    let answer = out.conclude(answer);
-    drop(line);
-    answer
+    out.conclude(answer)
 }
 
 /// Writes the normal form of a formula, and answers true.
@@ -48,9 +46,7 @@ pub fn run_normal<T: TimedRuntime>(
     let line = ProgressLine::new(*rt, threads, Stats::Nothing, None);
     let mut out = Output::new(*rt, &line);
     let answer = normal_asked(rt.alloc(), request, formula, &mut out);
-    let answer = out.conclude(answer);
-    drop(line);
-    answer
+    out.conclude(answer)
 }
 
 /// Writes the verdict on evidence, and answers whether it is good. All files are opened, in the order of the command line, before the first is
@@ -75,9 +71,7 @@ pub fn run_verify<T: TimedRuntime>(
         None => verify_text(rt.alloc(), game, evidence, &mut out),
         Some(other) => verify_both_text(rt.alloc(), game, evidence, other, &mut out),
     };
-    let answer = out.conclude(answer);
-    drop(line);
-    answer
+    out.conclude(answer)
 }
 
 /// Writes what comes of a schedule, and answers as `replay_asked` does. All files are opened, in the order of the command line, before the first is
@@ -106,7 +100,5 @@ pub fn run_replay<T: TimedRuntime>(
         schedule,
         &mut out,
     );
-    let answer = out.conclude(answer);
-    drop(line);
-    answer
+    out.conclude(answer)
 }

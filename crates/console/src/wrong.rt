@@ -92,16 +92,11 @@ pub fn wrong_counts(alloc: Global, header: &[u8], found: usize) -> Explanation {
     let Ok(header) = str::from_utf8(header) else {
         return Ok(None);
     };
-    match header
-        .split(",")
-        .nth(1)
-        .map(|number| number.trim().parse::<u64>())
-    {
-        Some(Ok(announced)) => {
-            Ok(Some(format!(in alloc; "transitions announced: {announced}, found: {found}")?))
-        }
-        _ => Ok(None),
-    }
+    let number = header.split(",").nth(1).unwrap_or("").trim();
+    let Ok(announced) = number.parse::<u64>() else {
+        return Ok(None);
+    };
+    Ok(Some(format!(in alloc; "transitions announced: {announced}, found: {found}")?))
 }
 
 /// What could stand in place of the token at this offset, or where the text ends.
