@@ -41,8 +41,9 @@ impl<T: Copy + Drop> Rows<T> {
     /// A row, without so many of the first items.
     #[inline(always)]
     pub(crate) fn row(&self, row: usize, first: u32) -> &[T] {
-        let Range { start, end } = self.places(row);
-        self.items.slice(start.saturating_add(first as usize), end)
+        let start = self.starts.get_or(row, 0).saturating_add(first);
+        let end = self.starts.get_or(row.wrapping_add(1), 0);
+        self.items.slice(start as usize, end as usize)
     }
 }
 
