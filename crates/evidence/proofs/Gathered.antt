@@ -1,5 +1,5 @@
 -- The entries of lines that were read so far.
-use Rattle.std.proofs.Common.{◌≡◌, ◌≢◌, ℕ, zero, suc, ◌+◌, ◌<◌, ◌≤◌, List, [], ◌∷◌, ◌++◌, Option, Some, None, length, refl, sym, ap, ◌∙◌, subst, inl, inr}
+use Rattle.std.proofs.Common.{◌≡◌, ◌≢◌, ℕ, zero, suc, ◌+◌, ◌<◌, ◌≤◌, List, [], ◌∷◌, ◌++◌, Option, Some, None, length, refl, sym, ap, ap₂, ◌∙◌, subst, inl, inr}
 use Rattle.std.proofs.Common.{true, false, arith, append-nil, append_assoc, get_or, replicate, slice_index_or, slice_set}
 use Rattle.std.specs.Prelude.{count_by, Contains, IfSome}
 use Rattle.std.specs.List.{AllByRecursion, AllZip}
@@ -11,11 +11,11 @@ use Rattle.std.proofs.lemmas.List.Quantifiers.{all_pairs_push}
 use Rattle.measures.proofs.Lists.{count_no, count_yes}
 use Rattle.text.specs.Lines.{IfKnown, TakesPiece}
 use Rattle.text.specs.Text.{pieces_of}
-use Rattle.evidence.specs.Evidence.{Entry}
+use Rattle.evidence.specs.Evidence.{Entry, counted}
 use Rattle.evidence.specs.Fault.{IsMisplaced, EvidenceLineFault}
 use Rattle.evidence.specs.Reading.{AreEntriesRead, HasEvidenceRestFault, IsAdded, IsCutOff, IsNoPlace, IsWrongLine, EntriesSoFar}
 use Rattle.evidence.specs.Spelling.{AreEntriesOf, IsRowInside, IsShaped, EntryRow}
-use Rattle.evidence.specs.View.{Entries}
+use Rattle.evidence.specs.View.{NamedEvidence, rank_width}
 use Rattle.evidence.specs.declared.error.EvidenceFault.{EvidenceFault}
 use Rattle.evidence.specs.declared.error.EvidenceFault.TheVariants.{BadHeader, BadLine, BadVertex}
 use Rattle.evidence.proofs.Making.{none_at}
@@ -25,20 +25,21 @@ none_filled zero = refl
 none_filled (suc n) = let rest = none_filled n in omega arith
 
 -- no line was read
-pub nothing_yet : (vertices : ℕ) (old : Option (List ℕ)) (entries : Entries) → vertices ≡ length entries.entries → entries.entries ≡ replicate vertices None
-    → EntriesSoFar vertices entries.width 0 old old entries
-nothing_yet vertices old entries all none = record {
+pub nothing_yet : (first : NamedEvidence) (old : Option (List ℕ)) → first.evidence.entries ≡ replicate (length first.evidence.entries) None
+    → EntriesSoFar first 0 old old first
+nothing_yet first old none = record {
   done = [];
   rows = [];
   fine = record { each = tt; inside = tt; once = λ i j d l k. absurd (omega (arith, k)) };
   count = refl;
   same = λ v x. (
-    λ e. absurd (let q = sym (none_at vertices v) ∙ (ap (λ es. slice_index_or es v None) (sym none) ∙ e) in let r : None ≡ Some x = q in cc),
+    λ e. absurd (let q = sym (none_at _ v) ∙ (ap (λ es. slice_index_or es v None) (sym none) ∙ e) in let r : None ≡ Some x = q in cc),
     λ h. absurd (omega (arith, h.1)),
   );
-  filled = ap (count_by is_some) none ∙ none_filled vertices;
-  long = sym all;
-  wide = refl;
+  filled = ap (count_by is_some) none ∙ none_filled (length first.evidence.entries);
+  long = refl;
+  game = refl;
+  player = refl;
   cut = start old;
 }
   where
@@ -92,8 +93,13 @@ filled_few [] = omega arith
 filled_few (None ∷ entries) = omega (arith, filled_few entries, count_no is_some nothing entries refl)
 filled_few (Some y ∷ entries) = omega (arith, filled_few entries, count_yes is_some (Some y) entries refl)
 
-pub few_good : (vertices width good : ℕ) (old now : Option (List ℕ)) (entries : Entries) → EntriesSoFar vertices width good old now entries → good ≤ vertices
-few_good vertices width good old now entries so = omega (arith, filled_few entries.entries, so.filled, so.long)
+pub few_good : (first : NamedEvidence) (good : ℕ) (old now : Option (List ℕ)) (read : NamedEvidence) → EntriesSoFar first good old now read
+    → good ≤ length first.evidence.entries
+few_good first good old now read so = omega (arith, filled_few read.evidence.entries, so.filled, so.long)
+
+wide : (first : NamedEvidence) (good : ℕ) (old now : Option (List ℕ)) (read : NamedEvidence) → EntriesSoFar first good old now read
+    → rank_width read ≡ rank_width first
+wide first good old now read so = ap₂ (λ p g. length (counted p g)) so.player so.game
 
 pub same_more : (rows : List EntryRow) (entries : List (Option Entry)) (x : EntryRow) → AreEntriesOf rows entries → x.vertex < length entries
     → slice_index_or entries x.vertex None ≡ None → AreEntriesOf (rows ++ x ∷ []) (slice_set entries x.vertex (Some x.entry))
@@ -125,25 +131,27 @@ same_more rows entries x same inside free v y = (to, from)
     ]
 
 -- one more line
-pub line_more : (vertices width good : ℕ) (old mid new : Option (List ℕ)) (line : List ℕ) (entries after : Entries)
-    → EntriesSoFar vertices width good old mid entries → TakesPiece mid new true line → IsAdded line entries after
-    → EntriesSoFar vertices width (good + 1) old new after
-line_more vertices width good old mid new line entries after so taken one =
+pub line_more : (first : NamedEvidence) (good : ℕ) (old mid new : Option (List ℕ)) (line : List ℕ) (read after : NamedEvidence)
+    → EntriesSoFar first good old mid read → TakesPiece mid new true line → IsAdded line read after → EntriesSoFar first (good + 1) old new after
+line_more first good old mid new line read after so taken one =
     record {
       done = so.done ++ line ∷ [];
       rows = so.rows ++ x ∷ [];
       fine = record {
-        each = each_more width so.done so.rows line x so.fine.each (subst (λ w. IsShaped w line x) so.wide one.shaped);
-        inside = all_more vertices so.rows x so.fine.inside (subst (λ n. IsRowInside n x) so.long one.inside);
+        each = each_more (rank_width first) so.done so.rows line x so.fine.each
+            (subst (λ w. IsShaped w line x) (wide first good old mid read so) one.shaped);
+        inside = all_more _ so.rows x so.fine.inside (subst (λ n. IsRowInside n x) so.long one.inside);
         once = all_pairs_push (λ (a b : EntryRow). a.vertex ≢ b.vertex) so.rows x so.fine.once apart;
       };
       count = omega (arith, length-append so.done (line ∷ []), so.count);
-      same = subst (λ (r : Entries). AreEntriesOf (so.rows ++ x ∷ []) r.entries) (sym one.added)
-          (same_more so.rows entries.entries x so.same one.inside.vertex one.free);
-      filled = ap (λ (r : Entries). count_by is_some r.entries) one.added
-          ∙ (filled_more entries.entries x.vertex x.entry one.inside.vertex one.free ∙ ap (λ n. n + 1) so.filled);
-      long = ap (λ (r : Entries). length r.entries) one.added ∙ (length-set entries.entries x.vertex (Some x.entry) ∙ so.long);
-      wide = ap (λ (r : Entries). r.width) one.added ∙ so.wide;
+      same = subst (λ (r : NamedEvidence). AreEntriesOf (so.rows ++ x ∷ []) r.evidence.entries) (sym one.added)
+          (same_more so.rows read.evidence.entries x so.same one.inside.vertex one.free);
+      filled = ap (λ (r : NamedEvidence). count_by is_some r.evidence.entries) one.added
+          ∙ (filled_more read.evidence.entries x.vertex x.entry one.inside.vertex one.free ∙ ap (λ n. n + 1) so.filled);
+      long = ap (λ (r : NamedEvidence). length r.evidence.entries) one.added
+          ∙ (length-set read.evidence.entries x.vertex (Some x.entry) ∙ so.long);
+      game = ap (λ (r : NamedEvidence). r.game) one.added ∙ so.game;
+      player = ap (λ (r : NamedEvidence). r.evidence.player) one.added ∙ so.player;
       cut = cut_more old mid new so.done line so.cut taken;
     }
   where
@@ -154,12 +162,12 @@ line_more vertices width good old mid new line entries after so taken one =
     apart k d h e =
         let y = get_or so.rows k d in
         let at = (so.same y.vertex y.entry).1 (Contains-get_or so.rows k d h) in
-        let q : None ≡ Some y.entry = sym (ap (λ v. slice_index_or entries.entries v None) e ∙ one.free) ∙ at in cc
+        let q : None ≡ Some y.entry = sym (ap (λ v. slice_index_or read.evidence.entries v None) e ∙ one.free) ∙ at in cc
 
 -- no line was left
-pub all_read : (vertices width good : ℕ) (old mid new : Option (List ℕ)) (line : List ℕ) (entries : Entries) → EntriesSoFar vertices width good old mid entries
-    → TakesPiece mid new false line → AreEntriesRead vertices width old entries.entries
-all_read vertices width good old mid new line entries so taken = record {
+pub all_read : (first : NamedEvidence) (good : ℕ) (old mid new : Option (List ℕ)) (line : List ℕ) (read : NamedEvidence) → EntriesSoFar first good old mid read
+    → TakesPiece mid new false line → AreEntriesRead (length first.evidence.entries) (rank_width first) old read.evidence.entries
+all_read first good old mid new line read so taken = record {
   rest = so.done;
   lines = record { rows = so.rows; good = so.fine; long = so.long; same = so.same };
   cut = whole old mid new so.cut taken;
@@ -171,26 +179,26 @@ all_read vertices width good old mid new line entries so taken = record {
     whole (Some text) (Some left) None cut taken = absurd taken
     whole (Some text) (Some left) (Some rest) cut taken = cut ∙ (ap (λ l. so.done ++ l) taken ∙ append-nil so.done)
 
-wrong_line : (vertices width good : ℕ) (old now : Option (List ℕ)) (entries : Entries) (line : List ℕ) (fault : EvidenceFault)
-    → (so : EntriesSoFar vertices width good old now entries) → IsWrongLine entries line fault
-    → EvidenceLineFault vertices width so.rows line fault
-wrong_line vertices width good old now entries line BadHeader so wrong = wrong
-wrong_line vertices width good old now entries line BadLine so wrong = λ x h. wrong x (subst (λ w. IsShaped w line x) (sym so.wide) h)
-wrong_line vertices width good old now entries line BadVertex so (x, shaped, place) = (x, subst (λ w. IsShaped w line x) so.wide shaped, misplaced place)
+wrong_line : (first : NamedEvidence) (good : ℕ) (old now : Option (List ℕ)) (read : NamedEvidence) (line : List ℕ) (fault : EvidenceFault)
+    → (so : EntriesSoFar first good old now read) → IsWrongLine read line fault
+    → EvidenceLineFault (length first.evidence.entries) (rank_width first) so.rows line fault
+wrong_line first good old now read line BadHeader so wrong = wrong
+wrong_line first good old now read line BadLine so wrong = λ x h. wrong x (subst (λ w. IsShaped w line x) (sym (wide first good old now read so)) h)
+wrong_line first good old now read line BadVertex so (x, shaped, place) = (x, subst (λ w. IsShaped w line x) (wide first good old now read so) shaped, misplaced place)
   where
-    misplaced : IsNoPlace entries.entries x.vertex x.entry.move → IsMisplaced vertices so.rows x
+    misplaced : IsNoPlace read.evidence.entries x.vertex x.entry.move → IsMisplaced (length first.evidence.entries) so.rows x
     misplaced (inl past) = inl (subst (λ n. n ≤ x.vertex) so.long past)
     misplaced (inr (inl (t, e, far))) = inr (inl (t, e, subst (λ n. n ≤ t) so.long far))
     misplaced (inr (inr (y, e))) = inr (inr (record { vertex = x.vertex; entry = y }, (so.same x.vertex y).0 e, refl))
 
 -- the line is faulty
-pub bad_line : (vertices width good p : ℕ) → p ≡ good → (old mid new : Option (List ℕ)) (line : List ℕ) (entries : Entries) (fault : EvidenceFault)
-    → EntriesSoFar vertices width good old mid entries → TakesPiece mid new true line
-    → IsWrongLine entries line fault → IfSome old (λ text. HasEvidenceRestFault vertices width text fault (p + 2))
-bad_line vertices width good p at None mid new line entries fault so taken wrong = tt
-bad_line vertices width good p at (Some text) None new line entries fault so taken wrong = absurd so.cut
-bad_line vertices width good p at (Some text) (Some left) None line entries fault so taken wrong = absurd taken
-bad_line vertices width good p at (Some text) (Some left) (Some rest) line entries fault so taken wrong = (
+pub bad_line : (first : NamedEvidence) (good p : ℕ) → p ≡ good → (old mid new : Option (List ℕ)) (line : List ℕ) (read : NamedEvidence) (fault : EvidenceFault)
+    → EntriesSoFar first good old mid read → TakesPiece mid new true line
+    → IsWrongLine read line fault → IfSome old (λ text. HasEvidenceRestFault (length first.evidence.entries) (rank_width first) text fault (p + 2))
+bad_line first good p at None mid new line read fault so taken wrong = tt
+bad_line first good p at (Some text) None new line read fault so taken wrong = absurd so.cut
+bad_line first good p at (Some text) (Some left) None line read fault so taken wrong = absurd taken
+bad_line first good p at (Some text) (Some left) (Some rest) line read fault so taken wrong = (
   good,
   record {
     front = so.done;
@@ -200,7 +208,7 @@ bad_line vertices width good p at (Some text) (Some left) (Some rest) line entri
     cut = so.cut ∙ ap (λ l. so.done ++ l) taken;
     fine = so.fine;
     count = so.count;
-    wrong = wrong_line vertices width good (Some text) (Some left) entries line fault so wrong;
+    wrong = wrong_line first good (Some text) (Some left) read line fault so wrong;
   },
   ap (λ n. n + 2) at,
 )

@@ -1,5 +1,5 @@
 -- What is wrong with a line of evidence, or the entry that it gives, by what was found on it.
-use Rattle.std.proofs.Common.{◌≡◌, ℕ, ◌<◌, ◌≤◌, List, Option, Some, None, length, refl, sym, ap, ap₂, ◌∙◌, subst, inl, inr, arith, slice_index_or, slice_set}
+use Rattle.std.proofs.Common.{◌≡◌, ℕ, ◌<◌, ◌≤◌, List, Option, Some, None, length, refl, sym, ap, ap₂, ◌∙◌, subst, inl, inr, arith, slice_index_or}
 use Rattle.std.proofs.lemmas.Bool.Decides.{leb_tells}
 use Rattle.text.specs.Tokens.{capped, ◌>>=◌}
 use Rattle.game.specs.declared.limits.TheConstants.{MOST_VERTICES}
@@ -7,7 +7,7 @@ use Rattle.evidence.specs.Evidence.{Entry}
 use Rattle.evidence.specs.Reading.{IsAdded, IsNoPlace, HasPlaceFor}
 use Rattle.evidence.specs.Scan.{fields_of, rank_of, read_move}
 use Rattle.evidence.specs.Spelling.{IsShaped, EntryRow}
-use Rattle.evidence.specs.View.{Entries}
+use Rattle.evidence.specs.View.{NamedEvidence, rank_width, with_entry}
 use Rattle.evidence.proofs.Scanned.{row_found, row_gives, row_of}
 
 abbrev entry : Option ℕ → List ℕ → Entry
@@ -45,8 +45,11 @@ far_move None k t e far = absurd cc
 far_move (Some u) k t e far = let is : capped u ≡ t = cc in (u, refl, omega arith)
 
 -- The numbers that were read decide as the numbers do that stand there.
-module _ (entries : List (Option Entry)) (few : length entries ≤ MOST_VERTICES) (v n : ℕ) (next m : Option ℕ) (number : v ≡ capped n)
+module _ (old : NamedEvidence) (few : length old.evidence.entries ≤ MOST_VERTICES) (v n : ℕ) (next m : Option ℕ) (number : v ≡ capped n)
     (is : next ≡ read_move m) where
+  abbrev entries : List (Option Entry)
+  entries = old.evidence.entries
+
   pub no_place : IsNoPlace entries v next → IsNoPlace entries n m
   no_place (inl past) = inl (omega arith)
   no_place (inr (inl (t, e, far))) = inr (inl (far_move m (length entries) t (sym is ∙ e) far))
@@ -62,13 +65,12 @@ module _ (entries : List (Option Entry)) (few : length entries ≤ MOST_VERTICES
     same_move : m ≡ next
     same_move = move_same m (length entries) few (λ t e. place.move t (is ∙ e)) ∙ sym is
 
-    pub placed : (width : ℕ) (line ks : List ℕ) (new : Entries) → IsShaped width line (row n m ks)
-        → new ≡ record { width = width; entries = slice_set entries v (Some (entry next ks)) }
-        → IsAdded line (record { width = width; entries = entries }) new
-    placed width line ks new h e = record {
+    pub placed : (line ks : List ℕ) → IsShaped (rank_width old) line (row n m ks) → (new : NamedEvidence) → new ≡ with_entry old v (entry next ks)
+        → IsAdded line old new
+    placed line ks h new e = record {
       row = row n m ks;
       shaped = h;
       inside = record { vertex = subst (λ k. k < length entries) same_vertex place.vertex; move = λ t q. place.move t (sym same_move ∙ q) };
       free = subst (λ k. slice_index_or entries k None ≡ None) same_vertex place.free;
-      added = e ∙ ap₂ (λ k o. record { width = width; entries = slice_set entries k (Some (entry o ks)) }) same_vertex (sym same_move);
+      added = e ∙ ap₂ (λ k o. with_entry old k (entry o ks)) same_vertex (sym same_move);
     }

@@ -22,7 +22,7 @@ pub mod Judged
 pub mod Gathered
 pub mod Alone
 pub mod Whole
-pub mod Drafted
+pub mod Entered
 pub mod Canonical
 pub mod Decided
 pub mod Shortened

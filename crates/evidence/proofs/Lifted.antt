@@ -20,7 +20,7 @@ use Rattle.evidence.specs.Reading.{IsAdded, IsNoPlace, IsWrongLine}
 use Rattle.evidence.specs.Scan.{IsNoHeader, fields_of, rank_of, read_move}
 use Rattle.evidence.specs.Short.{short}
 use Rattle.evidence.specs.Spelling.{IsMoveText, IsShaped, EntryRow}
-use Rattle.evidence.specs.View.{Entries}
+use Rattle.evidence.specs.View.{NamedEvidence, rank_width}
 use Rattle.evidence.proofs.Judged.{no_place}
 use Rattle.evidence.proofs.Scanned.{row_found, row_gives, row_of}
 use Rattle.evidence.proofs.Shortened.{SameFields, fields_short, rank_short, number_front_is, few_digits, word_short, short_append, short_shorter}
@@ -113,27 +113,27 @@ module _ (entries : List (Option Entry)) (few : length entries ≤ MOST_VERTICES
       ap (λ n. Some n) same
 
 -- what is wrong with the shortened line is wrong with the line
-pub lift_wrong : (old : Entries) (line : List ℕ) (fault : EvidenceFault) → length old.entries ≤ MOST_VERTICES → IsWrongLine old (short line) fault
+pub lift_wrong : (old : NamedEvidence) (line : List ℕ) (fault : EvidenceFault) → length old.evidence.entries ≤ MOST_VERTICES → IsWrongLine old (short line) fault
     → IsWrongLine old line fault
 lift_wrong old line BadHeader few wrong = wrong
-lift_wrong old line BadLine few wrong = unsaid old.width line wrong
+lift_wrong old line BadLine few wrong = unsaid (rank_width old) line wrong
 lift_wrong old line BadVertex few (x, h, place) =
-    let s = said old.width line x h in (
+    let s = said (rank_width old) line x h in (
       row s.vertex s.move x.entry.rank,
       s.shaped,
-      no_place old.entries few (capped x.vertex) s.vertex (read_move x.entry.move) s.move s.number s.read (capped_place old.entries few x.vertex x.entry.move place),
+      no_place old few (capped x.vertex) s.vertex (read_move x.entry.move) s.move s.number s.read (capped_place old.evidence.entries few x.vertex x.entry.move place),
     )
 
 -- what the shortened line adds the line adds
-pub lift_added : (line : List ℕ) (old new : Entries) → length old.entries ≤ MOST_VERTICES → IsAdded (short line) old new → IsAdded line old new
+pub lift_added : (line : List ℕ) (old new : NamedEvidence) → length old.evidence.entries ≤ MOST_VERTICES → IsAdded (short line) old new → IsAdded line old new
 lift_added line old new few one =
     let x = one.row in
-    let s = said old.width line x one.shaped in
+    let s = said (rank_width old) line x one.shaped in
     let below = one.inside.vertex in
     let vertex : x.vertex ≡ s.vertex = omega (arith, s.number, below, few) in
-    let move : x.entry.move ≡ s.move = small_move old.entries few s.move x.entry.move one.inside.move s.read in
+    let move : x.entry.move ≡ s.move = small_move old.evidence.entries few s.move x.entry.move one.inside.move s.read in
     let same : row s.vertex s.move x.entry.rank ≡ x = λ i. row (sym vertex i) (sym move i) x.entry.rank in
-    record { row = x; shaped = subst (IsShaped old.width line) same s.shaped; inside = one.inside; free = one.free; added = one.added }
+    record { row = x; shaped = subst (IsShaped (rank_width old) line) same s.shaped; inside = one.inside; free = one.free; added = one.added }
 
 -- ---- how long a shortened line is
 
@@ -196,10 +196,10 @@ kept_whole kept line e room =
     ]
 
 -- a line of which too much is kept is none
-pub too_long : (old : Entries) (kept line : List ℕ) → old.width ≤ MOST_COUNTS → kept ≡ take LONGEST_LINE (short line) → LONGEST_LINE ≤ length kept
+pub too_long : (old : NamedEvidence) (kept line : List ℕ) → rank_width old ≤ MOST_COUNTS → kept ≡ take LONGEST_LINE (short line) → LONGEST_LINE ≤ length kept
     → IsWrongLine old line BadLine
 too_long old kept line narrow e long = λ x h.
-    let few = short_enough old.width line x narrow h in
+    let few = short_enough (rank_width old) line x narrow h in
     omega (arith, ap length e, ap length (take_all LONGEST_LINE (short line) (omega (arith, few))), few, long)
 
 -- ---- the header

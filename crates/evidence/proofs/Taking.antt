@@ -1,5 +1,5 @@
 -- What a line that is taken says of what a reader has left.
-use Rattle.std.proofs.Common.{◌≡◌, ◌≢◌, ℕ, ◌+◌, true, false, cond, ◌==◌, List, [], ◌∷◌, take, Option, Some, None, Result, Ok}
+use Rattle.std.proofs.Common.{◌≡◌, ◌≢◌, ℕ, ◌+◌, true, false, cond, ◌==◌, List, [], ◌∷◌, length, take, Option, Some, None, Result, Ok}
 use Rattle.std.proofs.Common.{Err, refl, sym, ap, ◌∙◌, subst}
 use Rattle.std.specs.Prelude.{IfSome, IfErr, OnOk}
 use Rattle.text.specs.Text.{pieces_of, with_first, lines}
@@ -15,7 +15,7 @@ use Rattle.evidence.specs.Canon.{header}
 use Rattle.evidence.specs.Reading.{AddsNext, BeginsWith, HasNoHeader, HasEvidenceRestFault, IsAdded, IsWrongLine, ReadsNext, RefusesNext, EntriesSoFar, TakesFirst}
 use Rattle.evidence.specs.Scan.{IsNoHeader}
 use Rattle.evidence.specs.Short.{TakesShort, short}
-use Rattle.evidence.specs.View.{Entries}
+use Rattle.evidence.specs.View.{NamedEvidence, rank_width}
 use Rattle.evidence.proofs.Gathered.{bad_line, line_more}
 use Rattle.evidence.proofs.Lifted.{a_header, no_header}
 
@@ -55,47 +55,47 @@ none_taken (Some (b ∷ text)) (Some left) line (same, none) =
     absurd (let wrong : stream.line_of (b ∷ text) ∷ lines (after_line (b ∷ text)) ≡ [] = sym (lines_cons b text) ∙ none in cc)
 
 -- one more line
-pub next_more : (vertices width good : ℕ) (old a mid new : Option (List ℕ)) (before after : Entries) → EntriesSoFar vertices width good old a before
-    → HasLine a mid true → AddsNext mid new before after → EntriesSoFar vertices width (good + 1) old new after
-next_more vertices width good old a mid new before after so has (line, one, taken) =
-    line_more vertices width good old a new line before after so (next_taken a mid new line has taken) one
+pub next_more : (first : NamedEvidence) (good : ℕ) (old a mid new : Option (List ℕ)) (before after : NamedEvidence) → EntriesSoFar first good old a before
+    → HasLine a mid true → AddsNext mid new before after → EntriesSoFar first (good + 1) old new after
+next_more first good old a mid new before after so has (line, one, taken) =
+    line_more first good old a new line before after so (next_taken a mid new line has taken) one
 
 -- the line is faulty
-pub next_bad : (vertices width good p : ℕ) → p ≡ good → (old a mid new : Option (List ℕ)) (before : Entries) (fault : EvidenceFault)
-    → EntriesSoFar vertices width good old a before → HasLine a mid true → RefusesNext mid new before fault
-    → IfSome old (λ text. HasEvidenceRestFault vertices width text fault (p + 2))
-next_bad vertices width good p at None a mid new before fault so has wrong = tt
-next_bad vertices width good p at (Some text) None mid new before fault so has wrong = absurd so.cut
-next_bad vertices width good p at (Some text) (Some left) None new before fault so has wrong = absurd has
-next_bad vertices width good p at (Some text) (Some left) (Some same) None before fault so has wrong = absurd wrong
-next_bad vertices width good p at (Some text) (Some left) (Some same) (Some rest) before fault so has (wrong, after) =
-    bad_line vertices width good p at (Some text) (Some left) (Some rest) (first_piece same) before fault so
+pub next_bad : (first : NamedEvidence) (good p : ℕ) → p ≡ good → (old a mid new : Option (List ℕ)) (before : NamedEvidence) (fault : EvidenceFault)
+    → EntriesSoFar first good old a before → HasLine a mid true → RefusesNext mid new before fault
+    → IfSome old (λ text. HasEvidenceRestFault (length first.evidence.entries) (rank_width first) text fault (p + 2))
+next_bad first good p at None a mid new before fault so has wrong = tt
+next_bad first good p at (Some text) None mid new before fault so has wrong = absurd so.cut
+next_bad first good p at (Some text) (Some left) None new before fault so has wrong = absurd has
+next_bad first good p at (Some text) (Some left) (Some same) None before fault so has wrong = absurd wrong
+next_bad first good p at (Some text) (Some left) (Some same) (Some rest) before fault so has (wrong, after) =
+    bad_line first good p at (Some text) (Some left) (Some rest) (first_piece same) before fault so
     (next_taken (Some left) (Some same) (Some rest) (first_piece same) has (refl, after)) wrong
 
 -- ---- a line that is kept shortened
 
 -- it adds what the line adds
-pub short_adds : (kept : List ℕ) (old new : Option (List ℕ)) (before after : Entries) → IfKnown old new (TakesShort kept) → IsAdded kept before after
+pub short_adds : (kept : List ℕ) (old new : Option (List ℕ)) (before after : NamedEvidence) → IfKnown old new (TakesShort kept) → IsAdded kept before after
     → ((whole : List ℕ) → kept ≡ take LONGEST_LINE (short whole) → IsAdded whole before after) → AddsNext old new before after
 short_adds kept None new before after taken one whole = (kept, one, tt)
 short_adds kept (Some text) None before after taken one whole = absurd taken
 short_adds kept (Some text) (Some left) before after (is, rest) one whole = (first_piece text, whole (first_piece text) is, (refl, rest))
 
-pub short_bad : (kept : List ℕ) (old new : Option (List ℕ)) (before : Entries) (fault : EvidenceFault) → IfKnown old new (TakesShort kept)
+pub short_bad : (kept : List ℕ) (old new : Option (List ℕ)) (before : NamedEvidence) (fault : EvidenceFault) → IfKnown old new (TakesShort kept)
     → ((whole : List ℕ) → kept ≡ take LONGEST_LINE (short whole) → IsWrongLine before whole fault) → RefusesNext old new before fault
 short_bad kept old new before fault taken whole = known_only {P = TakesShort kept}
     {Q = λ text left. IsWrongLine before (first_piece text) fault × (left ≡ after_line text)} old new taken (λ text left t. (whole (first_piece text) t.0, t.1))
 
 -- ---- a line at hand
 
-pub here_read : {T : Type 0} (line : List ℕ) (old new : Option (List ℕ)) (before after : Entries) (r : Result T EvidenceFault)
+pub here_read : {T : Type 0} (line : List ℕ) (old new : Option (List ℕ)) (before after : NamedEvidence) (r : Result T EvidenceFault)
     → IfKnown old new (TakesFirst line) → OnOk r (IsAdded line before after) → IfErr r (IsWrongLine before line) → ReadsNext old new before after r
 here_read line old new before after (Ok x) taken added wrong = (line, added, taken)
 here_read line old new before after (Err fault) taken added wrong =
     known_only {P = TakesFirst line} {Q = λ text left. IsWrongLine before (first_piece text) fault × (left ≡ after_line text)} old new taken
     (λ text left t. (subst (λ l. IsWrongLine before l fault) (sym t.0) wrong, t.1))
 
-pub short_read : {T : Type 0} (kept : List ℕ) (old new : Option (List ℕ)) (before after : Entries) (r : Result T EvidenceFault)
+pub short_read : {T : Type 0} (kept : List ℕ) (old new : Option (List ℕ)) (before after : NamedEvidence) (r : Result T EvidenceFault)
     → IfKnown old new (TakesShort kept) → OnOk r (IsAdded kept before after)
     → OnOk r ((whole : List ℕ) → kept ≡ take LONGEST_LINE (short whole) → IsAdded whole before after)
     → IfErr r (λ fault. (whole : List ℕ) → kept ≡ take LONGEST_LINE (short whole) → IsWrongLine before whole fault) → ReadsNext old new before after r
@@ -136,7 +136,7 @@ header_none kept (Some text) (Some left) (Some rest) has (is, after) none =
     )
 
 -- nothing was done before it was read
-pub still_read : {T : Type 0} (old mid new : Option (List ℕ)) (before here after : Entries) (r : Result T EvidenceFault)
+pub still_read : {T : Type 0} (old mid new : Option (List ℕ)) (before here after : NamedEvidence) (r : Result T EvidenceFault)
     → IfKnown old mid (λ text left. left ≡ text) × (here ≡ before) → ReadsNext mid new here after r → ReadsNext old new before after r
 still_read None mid new before here after (Ok x) (kept, same) (line, one, taken) = (line, subst (λ b. IsAdded line b after) same one, tt)
 still_read None mid new before here after (Err fault) (kept, same) read = tt

@@ -1,49 +1,21 @@
 -- A header and the lines below it are a text of evidence.
-use Rattle.std.proofs.Common.{◌≡◌, ℕ, zero, suc, List, [], ◌∷◌, Option, Some, None, Result, length, ap, ◌∙◌, subst, arith}
-use Rattle.std.specs.Prelude.{Contains, IfErr, IfOk, IfSome}
-use Rattle.std.specs.List.{AllByRecursion, AllZip}
+use Rattle.std.proofs.Common.{ℕ, List, ◌∷◌, Option, Some, None, Result, length, ap, ◌∙◌}
+use Rattle.std.specs.Prelude.{IfErr, IfOk, IfSome}
 use Rattle.text.specs.Lines.{IfKnown}
 use Rattle.text.specs.Reads.{Reads}
 use Rattle.text.proofs.Promised.{AreLaws, keeps}
 use Rattle.game.specs.Game.{Game}
 use Rattle.game.specs.declared.player.Player.{Player}
 use Rattle.evidence.specs.Canon.{header}
-use Rattle.evidence.specs.Evidence.{Entry, IsEvidence, counted}
+use Rattle.evidence.specs.Evidence.{Entry, counted}
 use Rattle.evidence.specs.Fault.{HasEvidenceFault, HasEvidenceFaultAt, RefusesEvidence, evidence_fault_of}
 use Rattle.evidence.specs.Reading.{AreEntriesRead, BeginsWith, HasNoHeader}
-use Rattle.evidence.specs.Spelling.{IsEvidenceText, IsRowInside, IsShaped, EntryRow}
+use Rattle.evidence.specs.Spelling.{IsEvidenceText}
 use Rattle.evidence.specs.View.{NamedEvidence}
 use Rattle.evidence.specs.declared.error.EvidenceError.{EvidenceError}
 use Rattle.evidence.specs.declared.error.EvidenceFault.{EvidenceFault}
 use Rattle.evidence.specs.declared.error.EvidenceFault.TheVariants.{BadHeader, BadLine, BadVertex}
 use Rattle.evidence.proofs.Alone.{no_fault, one_evidence, one_fault}
-
-each_of : (P : EntryRow → Type 0) (rows : List EntryRow) (x : EntryRow) → AllByRecursion P rows → Contains rows x → P x
-each_of P [] x all (k, h, is) = absurd (omega (arith, h))
-each_of P (y ∷ rows) x all (zero, h, is) = subst P is all.0
-each_of P (y ∷ rows) x all (suc k, h, is) = each_of P rows x all.1 (k, omega (arith, h), is)
-
-counts_long : (w : ℕ) (lines : List (List ℕ)) (rows : List EntryRow) → AllZip (IsShaped w) lines rows → AllByRecursion (λ x. length x.entry.rank ≡ w) rows
-counts_long w [] [] h = tt
-counts_long w [] (x ∷ rows) h = absurd h
-counts_long w (l ∷ lines) [] h = absurd h
-counts_long w (l ∷ lines) (x ∷ rows) h = (h.0.count, counts_long w lines rows h.1)
-
--- what was read is evidence
-pub is_evidence : (g : Game) (player : Player) (old : Option (List ℕ)) (entries : List (Option Entry))
-    → AreEntriesRead (length g.vertices) (length (counted player g)) old entries → IsEvidence g (record { player = player; entries = entries })
-is_evidence g player old entries read = record {
-  long = read.lines.long;
-  entries = λ v x e.
-      let here = (read.lines.same v x).0 e in
-      let inside : IsRowInside (length g.vertices) (record { vertex = v; entry = x }) = each_of
-      (IsRowInside (length g.vertices)) read.lines.rows _ read.lines.good.inside here in
-      record {
-        move = inside.move;
-        rank = each_of (λ r. length r.entry.rank ≡ length (counted player g)) read.lines.rows _
-            (counts_long _ read.rest read.lines.rows read.lines.good.each) here;
-      };
-}
 
 -- what was read is spelled
 pub spelled : (g : Game) (player : Player) (entries : List (Option Entry)) (old mid : Option (List ℕ)) → IfKnown old mid (BeginsWith player)

@@ -11,7 +11,6 @@ pub mod Verdict
 pub mod Witness
 pub mod Laws
 pub mod View
-pub mod Draft
 pub mod Checking
 pub mod Full
 pub mod Pair

@@ -60,6 +60,13 @@ impl Entries {
         })
     }
 
+    /// How many counts each rank has.
+    pub(crate) fn width(&self) -> usize
+        ensures { result ≡ self.now.width }
+    {
+        self.width
+    }
+
     /// How many vertices there are, with an entry or without.
     pub(crate) fn len(&self) -> usize
         ensures { result ≡ length self.now.entries }

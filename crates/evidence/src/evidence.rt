@@ -1,17 +1,21 @@
 // Evidence that a player wins a set of vertices.
 
-ghost use Rattle.std.specs.Prelude.{◌≡◌, ◌<◌, None, Some, MatchOption, count_by, length};
+ghost use Rattle.std.specs.Prelude.{◌≡◌, ◌<◌, ◌≤◌, None, Some, IfOk, IfSome, MatchOption, count_by, length};
 ghost use Rattle.std.specs.Option.{is_some};
-ghost use Rattle.evidence.specs.Evidence.{IsEvidence, entry_at, has as has_entry};
+ghost use Rattle.evidence.specs.Evidence.{IsEvidence, counted, entry_at, has as has_entry};
+ghost use Rattle.evidence.specs.View.{empty, rank_width, with_entry};
 
-use crate::entries::{Entries, EntryView};
+use crate::entries::{Entries, EntryView, MOST_COUNTS};
+use game::dual::greatest_priority;
 use game::graph::Game;
 use game::player::Player;
+use std::alloc::Global;
 use std::marker::Model;
 use std::snapshot::Snapshot;
+use text::Memory;
 
 /// Why a player wins the vertices of a set: for each of them where its owner goes on, if that is the player, and a rank
-/// that bounds how often the play meets priorities of the opponent (Jurdziński 2000).
+/// that bounds how often the play meets priorities of the opponent (Jurdziński 2000). Whether it is good is for the checker to say.
 #[derive(Drop)]
 pub struct Evidence {
     player: Player,
@@ -20,39 +24,45 @@ pub struct Evidence {
 }
 
 impl Model for Evidence {
-    ghost use Rattle.evidence.specs.Evidence.{IsEvidence};
+    ghost use Rattle.std.specs.Prelude.{◌≡◌, length};
+    ghost use Rattle.evidence.specs.Evidence.{IsEvidence, counted};
     ghost use Rattle.evidence.specs.View.{NamedEvidence};
 
     ghost Value = { NamedEvidence };
 
     ghost view = { λ e. record { game = e.of.value; evidence = record { player = e.player; entries = e.entries.entries } } };
 
-    ghost invariant = { λ e. IsEvidence e.of.value (record { player = e.player; entries = e.entries.entries }) };
+    ghost invariant = { λ e. IsEvidence e.of.value (record { player = e.player; entries = e.entries.entries })
+        × (e.entries.width ≡ length (counted e.player e.of.value)) };
+}
+
+// How many counts a rank of the player's has.
+pub(crate) fn width(player: Player, game: &Game) -> usize
+    ensures width { result ≡ length (counted player game.now) }
+    ensures few { result ≤ MOST_COUNTS }
+{
+    game.known();
+    let greatest = greatest_priority(game) as usize;
+    match player {
+        Player::Even => (greatest + 1) / 2,
+        Player::Odd => greatest / 2 + 1,
+    }
 }
 
 impl Evidence {
-    // Evidence with these entries.
-    pub(crate) fn of(player: Player, entries: Entries, game: &Game) -> Self
-        requires { IsEvidence game.now record { player = player; entries = entries.entries } }
-        ensures { result ≡ record { game = game.now; evidence = record { player = player; entries = entries.entries } } }
+    /// That the player wins nothing yet, with all memory that entries will need.
+    ///
+    /// # Errors
+    /// Out of memory, and nothing else.
+    pub fn none(alloc: Global, game: &Game, player: Player) -> Result<Self, Memory>
+        ensures { IfOk result (λ e. e ≡ empty game.now player) }
     {
-        Evidence {
+        game.known();
+        Ok(Evidence {
             player,
-            entries,
+            entries: Entries::none(alloc, game.vertices() as usize, width(player, game))?,
             of: Snapshot::of(game),
-        }
-    }
-
-    // Evidence with these entries, of a game that is known.
-    pub(crate) fn of_snapshot(player: Player, entries: Entries, of: Snapshot<Game>) -> Self
-        requires { IsEvidence of.value record { player = player; entries = entries.entries } }
-        ensures { result ≡ record { game = of.value; evidence = record { player = player; entries = entries.entries } } }
-    {
-        Evidence {
-            player,
-            entries,
-            of,
-        }
+        })
     }
 
     /// What holds of all evidence.
@@ -75,6 +85,13 @@ impl Evidence {
         ensures { result ≡ self.now.evidence.player }
     {
         self.player
+    }
+
+    /// How many counts each rank has.
+    pub fn width(&self) -> usize
+        ensures { result ≡ rank_width self.now }
+    {
+        self.entries.width()
     }
 
     /// How many vertices are in the set. It looks at each vertex of the game.
@@ -105,5 +122,15 @@ impl Evidence {
         ensures { result ≡ has_entry self.now.evidence v }
     {
         self.get(v).is_some()
+    }
+
+    /// Puts a vertex into the set, with the player's move there and a rank.
+    pub fn put(&mut self, v: u32, next: Option<u32>, rank: &[u32])
+        requires vertex { v < length self.old.game.vertices }
+        requires next { IfSome next (λ t. t < length self.old.game.vertices) }
+        requires rank { length rank.now ≡ rank_width self.old }
+        ensures { self.new ≡ with_entry self.old v (record { move = next; rank = rank.now }) }
+    {
+        self.entries.set(v as usize, next, rank);
     }
 }

@@ -4,7 +4,6 @@ ghost use Rattle.std.specs.Prelude.{◌≡◌, IfOk, IfSome, length};
 ghost use Rattle.evidence.specs.Pair.{AreOf};
 ghost use Rattle.evidence.specs.Evidence.{counted};
 
-use crate::draft::Draft;
 use crate::evidence::Evidence;
 use crate::pair::EvidencePair;
 use game::gauge::Gauge;
@@ -24,18 +23,18 @@ fn evidence_of(
     ensures game { IfOk result (λ e. e.game ≡ game.now) }
     ensures player { IfOk result (λ e. e.evidence.player ≡ player) }
 {
-    let mut draft = Draft::new(alloc, game, player)?;
-    let mut rank = vec![in alloc; 0; draft.width()]?;
-    let ranks = guess.ranks(alloc, player, draft.width());
+    let mut evidence = Evidence::none(alloc, game, player)?;
+    let mut rank = vec![in alloc; 0; evidence.width()]?;
+    let ranks = guess.ranks(alloc, player, evidence.width());
     let vertices = game.vertices();
     for v in 0..vertices {
         if guess.winner(v) == player {
             ranks.put(v, rank.as_mut_slice());
             let next = guess.next(v).filter(|next| *next < vertices);
-            draft.put(v, next, rank.as_slice());
+            evidence.put(v, next, rank.as_slice());
         }
     }
-    Ok(draft.into_evidence())
+    Ok(evidence)
 }
 
 // Evidence of all that each player is guessed to win. There is none where the guess took too long, or where memory runs out.

@@ -2,7 +2,6 @@
 #![tactic(auto)]
 
 pub mod decide;
-pub mod draft;
 pub mod entries;
 pub mod error;
 pub mod evidence;

@@ -4,14 +4,14 @@ ghost use Rattle.std.specs.Prelude.{◌≡◌, ◌<◌, ◌≤◌, ◌↔◌, �
 ghost use Rattle.game.specs.Game.{dual as dual_of, greatest};
 ghost use Rattle.game.specs.Wins.{OddWins, Wins};
 ghost use Rattle.evidence.specs.Checking.{IsMoveAt};
-ghost use Rattle.evidence.specs.Best.{IsEvenOf, IsOddOf};
+ghost use Rattle.measures.specs.StoredProposal.{game_for};
+ghost use Rattle.evidence.specs.Best.{IsBestOf, IsEvenOf, IsOddOf};
 ghost use Rattle.evidence.specs.Evidence.{IsGood, has};
 
-use crate::entries::Entries;
 use crate::error::EvidenceError;
 use crate::evidence::Evidence;
 use calculus::limits::GREATEST_PRIORITY;
-use game::dual::{dual, greatest_priority};
+use game::dual::dual;
 use game::graph::Game;
 use game::player::Player;
 use laws::games::{dual_wins, not_both_win};
@@ -32,21 +32,28 @@ fn best_move(game: &Game, settled: &Settled, v: u32) -> Option<u32>
     }
 }
 
-// An entry for each vertex that Even wins.
-fn entries_of(alloc: Global, game: &Game, settled: &Settled) -> Result<Entries, Memory>
-    requires { settled.now.game ≡ game.now }
-    ensures { IfOk result (λ e. IsEvenOf game.now (record { player = Player.Even; entries = e.entries })) }
+// Evidence for a player of the vertices at which the least measures of the player's game aren't top: of the game itself for Even, of its dual for Odd.
+fn evidence_of(
+    alloc: Global,
+    game: &Game,
+    measured: &Game,
+    settled: &Settled,
+    player: Player,
+) -> Result<Evidence, Memory>
+    requires measured { measured.now ≡ game_for player game.now }
+    requires settled { settled.now.game ≡ measured.now }
+    ensures game { IfOk result (λ e. e.game ≡ game.now) }
+    ensures best { IfOk result (λ e. IsBestOf player game.now e.evidence) }
 {
-    game.known();
+    measured.known();
     settled.known();
-    let width = (greatest_priority(game) as usize + 1) / 2;
-    let mut entries = Entries::none(alloc, game.vertices() as usize, width)?;
-    for v in 0..game.vertices() {
+    let mut evidence = Evidence::none(alloc, game, player)?;
+    for v in 0..measured.vertices() {
         if !settled.is_top(v) {
-            entries.set(v as usize, best_move(game, settled, v), settled.counts(v));
+            evidence.put(v, best_move(measured, settled, v), settled.counts(v));
         }
     }
-    Ok(entries)
+    Ok(evidence)
 }
 
 /// Evidence of all that Even wins, by the least progress table: its measures are the ranks, and Even goes on to the least
@@ -54,6 +61,7 @@ fn entries_of(alloc: Global, game: &Game, settled: &Settled) -> Result<Entries, 
 ///
 /// # Errors
 /// Out of memory, E5, and nothing else.
+#[tactic(auto, using(crate::proofs::BestGood::even_is_good))]
 pub fn even_evidence(
     alloc: Global,
     game: &Game,
@@ -69,28 +77,14 @@ pub fn even_evidence(
     ensures exact { IfOk result (λ e. (v : ℕ) → IsTrue (has e.evidence v) ↔ Wins game.now v) }
 {
     game.known();
-    let entries = entries_of(alloc, game, settled)?;
-    Ok(Evidence::of(Player::Even, entries, game))
-}
-
-// Even's entries of the dual game, read for Odd.
-fn for_odd(game: &Game, entries: Entries) -> Evidence
-    requires few { greatest game.now ≤ GREATEST_PRIORITY }
-    requires even { IsEvenOf (dual_of game.now) (record { player = Player.Even; entries = entries.entries }) }
-
-    ensures game { result.game ≡ game.now }
-    ensures odd { IsOddOf game.now result.evidence }
-    ensures good { IsGood game.now result.evidence }
-    ensures exact { (v : ℕ) → IsTrue (has result.evidence v) ↔ OddWins game.now v }
-{
-    game.known();
-    Evidence::of(Player::Odd, entries, game)
+    Ok(evidence_of(alloc, game, game, settled, Player::Even)?)
 }
 
 /// Evidence of all that Odd wins: Even's of the dual game, by its least progress table, read for Odd.
 ///
 /// # Errors
 /// Out of memory, E5, and nothing else.
+#[tactic(auto, using(crate::proofs::BestGood::odd_is_good))]
 pub fn odd_evidence_of(
     alloc: Global,
     game: &Game,
@@ -108,8 +102,8 @@ pub fn odd_evidence_of(
     ensures good { IfOk result (λ e. IsGood game.now e.evidence) }
     ensures exact { IfOk result (λ e. (v : ℕ) → IsTrue (has e.evidence v) ↔ OddWins game.now v) }
 {
-    let entries = entries_of(alloc, turned, settled)?;
-    Ok(for_odd(game, entries))
+    game.known();
+    Ok(evidence_of(alloc, game, turned, settled, Player::Odd)?)
 }
 
 // Leaves top in a table of the dual game where Even wins the game itself.

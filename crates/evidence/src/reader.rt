@@ -5,20 +5,19 @@ ghost use Rattle.text.specs.Cause.{HasCause};
 ghost use Rattle.text.specs.Lines.{IfKnown};
 ghost use Rattle.text.specs.Reads.{Reads};
 ghost use Rattle.text.specs.declared.error.ReadFault.TheVariants as reads;
-ghost use Rattle.evidence.specs.Evidence.{counted};
 ghost use Rattle.evidence.specs.Fault.{HasEvidenceFault, HasEvidenceFaultAt, RefusesEvidence, evidence_fault_of};
 ghost use Rattle.evidence.specs.Reading.{AreEntriesRead, BeginsWith, HasNoHeader, HasEvidenceRestFault, IsAdded, IsNoPlace, HasPlaceFor, IsWrongLine, ReadsAtHand, ReadsNext};
 ghost use Rattle.evidence.specs.Short.{short};
 ghost use Rattle.evidence.specs.Spelling.{IsEvidenceText};
+ghost use Rattle.evidence.specs.View.{rank_width};
 ghost use Rattle.evidence.specs.declared.error.EvidenceError.TheVariants as errors;
 
 use crate::entries::{Entries, MOST_COUNTS};
 use crate::error::{EvidenceError, EvidenceFault};
-use crate::evidence::Evidence;
+use crate::evidence::{Evidence, width};
 use crate::limits::LONGEST_LINE;
 use crate::scan::{fields, player_of, read_rank};
 use crate::short::short_line;
-use game::dual::greatest_priority;
 use game::graph::Game;
 use game::limits::MOST_VERTICES;
 use game::player::Player;
@@ -62,11 +61,11 @@ fn has_place(entries: &Entries, v: u32, next: Option<u32>) -> bool
 }
 
 // Gives the vertex of a line its entry.
-fn add_line(line: &[u8], counts: &mut [u32], entries: &mut Entries) -> Result<(), EvidenceFault>
-    requires width { length counts.old ≡ entries.old.width }
-    requires few { length entries.old.entries ≤ MOST_VERTICES }
-    ensures added { OnOk result (IsAdded line.now entries.old entries.new) }
-    ensures fault { IfErr result (IsWrongLine entries.old line.now) }
+fn add_line(line: &[u8], counts: &mut [u32], evidence: &mut Evidence) -> Result<(), EvidenceFault>
+    requires width { length counts.old ≡ rank_width evidence.old }
+    requires few { length evidence.old.evidence.entries ≤ MOST_VERTICES }
+    ensures added { OnOk result (IsAdded line.now evidence.old evidence.new) }
+    ensures fault { IfErr result (IsWrongLine evidence.old line.now) }
 {
     let Some(spelled) = fields(line) else {
         return Err(EvidenceFault::BadLine);
@@ -74,38 +73,39 @@ fn add_line(line: &[u8], counts: &mut [u32], entries: &mut Entries) -> Result<()
     if !read_rank(spelled.rank, counts) {
         return Err(EvidenceFault::BadLine);
     }
-    if !has_place(entries, spelled.vertex, spelled.next) {
+    if !has_place(evidence.entries(), spelled.vertex, spelled.next) {
         return Err(EvidenceFault::BadVertex);
     }
-    entries.set(spelled.vertex as usize, spelled.next, counts);
+    evidence.known();
+    evidence.put(spelled.vertex, spelled.next, counts);
     Ok(())
 }
 
 // Gives the vertex of a line its entry, of which line this is what is kept where it is shortened.
-fn add_short(line: &[u8], counts: &mut [u32], entries: &mut Entries) -> Result<(), EvidenceFault>
-    requires width { length counts.old ≡ entries.old.width }
-    requires few { length entries.old.entries ≤ MOST_VERTICES }
-    requires narrow { entries.old.width ≤ MOST_COUNTS }
+fn add_short(line: &[u8], counts: &mut [u32], evidence: &mut Evidence) -> Result<(), EvidenceFault>
+    requires width { length counts.old ≡ rank_width evidence.old }
+    requires few { length evidence.old.evidence.entries ≤ MOST_VERTICES }
+    requires narrow { rank_width evidence.old ≤ MOST_COUNTS }
 
-    ensures added { OnOk result (IsAdded line.now entries.old entries.new) }
-    ensures whole { OnOk result ((whole : List ℕ) → line.now ≡ take LONGEST_LINE (short whole) → IsAdded whole entries.old entries.new) }
-    ensures fault { IfErr result (λ fault. (whole : List ℕ) → line.now ≡ take LONGEST_LINE (short whole) → IsWrongLine entries.old whole fault) }
+    ensures added { OnOk result (IsAdded line.now evidence.old evidence.new) }
+    ensures whole { OnOk result ((whole : List ℕ) → line.now ≡ take LONGEST_LINE (short whole) → IsAdded whole evidence.old evidence.new) }
+    ensures fault { IfErr result (λ fault. (whole : List ℕ) → line.now ≡ take LONGEST_LINE (short whole) → IsWrongLine evidence.old whole fault) }
 {
     if line.len() >= LONGEST_LINE {
         return Err(EvidenceFault::BadLine);
     }
-    add_line(line, counts, entries)
+    add_line(line, counts, evidence)
 }
 
 // Reads the line that is next where it stands whole in the block at hand, its end with it. Else it takes nothing.
 fn at_hand<B: Blocks>(
     reader: &mut B,
     counts: &mut [u32],
-    entries: &mut Entries,
+    evidence: &mut Evidence,
 ) -> Result<Option<Result<(), EvidenceFault>>, ReadFault>
-    requires width { length counts.old ≡ entries.old.width }
-    requires few { length entries.old.entries ≤ MOST_VERTICES }
-    ensures { MatchResult result (ReadsAtHand (B.remaining reader.old) (B.remaining reader.new) entries.old entries.new)
+    requires width { length counts.old ≡ rank_width evidence.old }
+    requires few { length evidence.old.evidence.entries ≤ MOST_VERTICES }
+    ensures { MatchResult result (ReadsAtHand (B.remaining reader.old) (B.remaining reader.new) evidence.old evidence.new)
         (HasCause B.can_fail reads.Read) }
 {
     let block = match reader.fill_buf() {
@@ -116,7 +116,7 @@ fn at_hand<B: Blocks>(
     let Some((line, _)) = cut_at(block, b'\n') else {
         return Ok(None);
     };
-    let added = add_line(line, counts, entries);
+    let added = add_line(line, counts, evidence);
     let len = line.len() + 1;
     reader.consume(len);
     Ok(Some(added))
@@ -127,19 +127,19 @@ fn read_line<B: Blocks>(
     reader: &mut B,
     kept: &mut Vec<u8>,
     counts: &mut [u32],
-    entries: &mut Entries,
+    evidence: &mut Evidence,
 ) -> Result<Result<(), EvidenceFault>, ReadFault>
-    requires width { length counts.old ≡ entries.old.width }
-    requires few { length entries.old.entries ≤ MOST_VERTICES }
-    requires narrow { entries.old.width ≤ MOST_COUNTS }
-    ensures { MatchResult result (ReadsNext (B.remaining reader.old) (B.remaining reader.new) entries.old entries.new)
+    requires width { length counts.old ≡ rank_width evidence.old }
+    requires few { length evidence.old.evidence.entries ≤ MOST_VERTICES }
+    requires narrow { rank_width evidence.old ≤ MOST_COUNTS }
+    ensures { MatchResult result (ReadsNext (B.remaining reader.old) (B.remaining reader.new) evidence.old evidence.new)
         (HasCause B.can_fail reads.Read) }
 {
-    if let Some(added) = at_hand(reader, counts, entries)? {
+    if let Some(added) = at_hand(reader, counts, evidence)? {
         return Ok(added);
     }
     short_line(reader, kept)?;
-    Ok(add_short(kept, counts, entries))
+    Ok(add_short(kept, counts, evidence))
 }
 
 // Reads the lines below a header, where no vertex has an entry yet.
@@ -147,21 +147,23 @@ fn read_lines<B: Blocks>(
     reader: &mut B,
     kept: &mut Vec<u8>,
     counts: &mut [u32],
-    entries: &mut Entries,
+    evidence: &mut Evidence,
 ) -> Result<(), EvidenceError>
-    requires none { entries.old.entries ≡ replicate (length entries.old.entries) None }
-    requires width { length counts.old ≡ entries.old.width }
-    requires few { length entries.old.entries ≤ MOST_VERTICES }
-    requires narrow { entries.old.width ≤ MOST_COUNTS }
+    requires none { evidence.old.evidence.entries ≡ replicate (length evidence.old.evidence.entries) None }
+    requires width { length counts.old ≡ rank_width evidence.old }
+    requires few { length evidence.old.evidence.entries ≤ MOST_VERTICES }
+    requires narrow { rank_width evidence.old ≤ MOST_COUNTS }
 
-    ensures lines { OnOk result (AreEntriesRead (length entries.old.entries) entries.old.width (B.remaining reader.old) entries.new.entries) }
-    ensures fault { IfErr result (RefusesEvidence (B.remaining reader.old) (HasEvidenceRestFault (length entries.old.entries) entries.old.width)) }
+    ensures game { OnOk result (evidence.new.game ≡ evidence.old.game) }
+    ensures player { OnOk result (evidence.new.evidence.player ≡ evidence.old.evidence.player) }
+    ensures lines { OnOk result (AreEntriesRead (length evidence.old.evidence.entries) (rank_width evidence.old) (B.remaining reader.old) evidence.new.evidence.entries) }
 
+    ensures fault { IfErr result (RefusesEvidence (B.remaining reader.old) (HasEvidenceRestFault (length evidence.old.evidence.entries) (rank_width evidence.old))) }
     ensures cause { IfErr result (HasCause B.can_fail errors.Read) }
 {
     let mut good = 0;
     while has_line(reader)? {
-        if let Err(fault) = read_line(reader, kept, counts, entries)? {
+        if let Err(fault) = read_line(reader, kept, counts, evidence)? {
             return Err(EvidenceError::Fault {
                 fault,
                 line: good + 2,
@@ -170,41 +172,6 @@ fn read_lines<B: Blocks>(
         good += 1;
     }
     Ok(())
-}
-
-// How many counts a rank of the player's has.
-pub(crate) fn width(player: Player, game: &Game) -> usize
-    ensures width { result ≡ length (counted player game.now) }
-    ensures few { result ≤ MOST_COUNTS }
-{
-    game.known();
-    let greatest = greatest_priority(game) as usize;
-    match player {
-        Player::Even => (greatest + 1) / 2,
-        Player::Odd => greatest / 2 + 1,
-    }
-}
-
-// Reads the player's entries.
-fn read_entries<B: Blocks>(
-    alloc: Global,
-    reader: &mut B,
-    kept: &mut Vec<u8>,
-    player: Player,
-    game: &Game,
-) -> Result<Entries, EvidenceError>
-    ensures lines { IfOk result (λ e. AreEntriesRead (length game.now.vertices) (length (counted player game.now)) (B.remaining reader.old) e.entries) }
-    ensures fault { IfErr result (RefusesEvidence (B.remaining reader.old) (HasEvidenceRestFault (length game.now.vertices) (length (counted player game.now)))) }
-    ensures cause { IfErr result (HasCause B.can_fail errors.Read) }
-{
-    game.known();
-    let width = width(player, game);
-    let mut counts = [0; MOST_COUNTS];
-    let Ok(mut entries) = Entries::none(alloc, game.vertices() as usize, width) else {
-        return Err(EvidenceError::Memory);
-    };
-    read_lines(reader, kept, &mut counts[..width], &mut entries)?;
-    Ok(entries)
 }
 
 // Reads the whole text.
@@ -218,10 +185,14 @@ fn read_text<B: Blocks>(
     ensures fault { IfErr result (RefusesEvidence (B.remaining reader.old) (HasEvidenceFault game.now)) }
     ensures cause { IfErr result (HasCause B.can_fail errors.Read) }
 {
+    game.known();
     let mut kept = Vec::new(alloc);
     let player = read_header(reader, &mut kept)?;
-    let entries = read_entries(alloc, reader, &mut kept, player, game)?;
-    Ok(Evidence::of(player, entries, game))
+    let mut evidence = Evidence::none(alloc, game, player)?;
+    let mut counts = [0; MOST_COUNTS];
+    let width = width(player, game);
+    read_lines(reader, &mut kept, &mut counts[..width], &mut evidence)?;
+    Ok(evidence)
 }
 
 /// Reads evidence for a game: a header, and below it a line for each vertex of the set, in any order. Lines end by LF, and a CR is a byte like any

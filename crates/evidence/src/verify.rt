@@ -7,6 +7,7 @@ ghost use Rattle.game.specs.Wins.{IsOf, WinsBy};
 ghost use Rattle.evidence.specs.Checking.{AreBelow, AreInside, Decides, IsAlong, IsFaultAt, IsLeastFault, IsLeftOver};
 ghost use Rattle.evidence.specs.Evidence.{Descends, Entry, counted, entry_at, has};
 ghost use Rattle.evidence.specs.Verdict.{IsBoth, IsVerdict};
+ghost use Rattle.evidence.specs.View.{rank_width};
 
 use crate::evidence::Evidence;
 use crate::verdict::{Both, Fault, Verdict};
@@ -67,7 +68,7 @@ fn are_inside(evidence: &Evidence, targets: &[u32]) -> bool
 // Whether the rank descends from a vertex of this priority to one, if that is in the set.
 fn is_below(evidence: &Evidence, priority: u8, rank: &[u32], t: u32) -> bool
     requires priority { priority < 255 }
-    requires rank { length rank.now ≡ length (counted evidence.now.evidence.player evidence.now.game) }
+    requires rank { length rank.now ≡ rank_width evidence.now }
     requires target { t < length evidence.now.game.vertices }
     ensures { IsTrue result ↔ ((y : Entry) → entry_at evidence.now.evidence t ≡ Some y
         → Descends evidence.now.evidence.player evidence.now.game priority rank.now y.rank) }
@@ -82,7 +83,7 @@ fn is_below(evidence: &Evidence, priority: u8, rank: &[u32], t: u32) -> bool
 // Whether it does to all of these.
 fn are_below(evidence: &Evidence, priority: u8, rank: &[u32], targets: &[u32]) -> bool
     requires priority { priority < 255 }
-    requires rank { length rank.now ≡ length (counted evidence.now.evidence.player evidence.now.game) }
+    requires rank { length rank.now ≡ rank_width evidence.now }
     requires inside { AllByRecursion (λ t. t < length evidence.now.game.vertices) targets.now }
     ensures { IsTrue result ↔ AreBelow evidence.now.game evidence.now.evidence priority rank.now targets.now }
 {
@@ -97,7 +98,7 @@ fn are_below(evidence: &Evidence, priority: u8, rank: &[u32], targets: &[u32]) -
 // The least fault along edges to these, if there is one.
 fn fault_along(evidence: &Evidence, priority: u8, rank: &[u32], targets: &[u32]) -> Option<Fault>
     requires priority { priority < 255 }
-    requires rank { length rank.now ≡ length (counted evidence.now.evidence.player evidence.now.game) }
+    requires rank { length rank.now ≡ rank_width evidence.now }
     requires inside { AllByRecursion (λ t. t < length evidence.now.game.vertices) targets.now }
     ensures { IsAlong evidence.now.game evidence.now.evidence priority rank.now targets.now result }
 {

@@ -10,7 +10,6 @@ use crate::ball::{LOST, UNMET};
 use crate::field::{Field, wins_by};
 use crate::finding::find_lasso;
 use calculus::form::Normal;
-use evidence::draft::Draft;
 use evidence::evidence::Evidence;
 use evidence::verdict::Verdict;
 use evidence::verify::verify;
@@ -60,19 +59,19 @@ fn evidence_of(
 ) -> Result<Evidence, Memory>
     ensures { IfOk result (λ e. e.game ≡ game.now) }
 {
-    let mut draft = Draft::new(alloc, game, player)?;
-    let mut rank = vec![in alloc; 0; draft.width()]?;
+    let mut evidence = Evidence::none(alloc, game, player)?;
+    let mut rank = vec![in alloc; 0; evidence.width()]?;
     let mut next = u32::MAX;
     for v in play_back {
         let v = *v;
         if v < game.vertices() {
             count_on(player, game.priority(v), rank.as_mut_slice());
             let is_own = game.owner(v) == player && next < game.vertices();
-            draft.put(v, is_own.then_some(next), rank.as_slice());
+            evidence.put(v, is_own.then_some(next), rank.as_slice());
         }
         next = v;
     }
-    Ok(draft.into_evidence())
+    Ok(evidence)
 }
 
 /// Good evidence of the player who wins the vertex of the initial state with the root, where a play is found there that goes one way from each of its

@@ -4,7 +4,7 @@ use Rattle.game.proofs.Greatest.{greatest_limit}
 use Rattle.measures.proofs.Components.{odd_down_long}
 use Rattle.evidence.specs.Evidence.{counted}
 use Rattle.evidence.proofs.Shifted.{even_down_long}
-use Rattle.evidence.proofs.reader.width.Goals as goal
+use Rattle.evidence.proofs.evidence.width.Goals as goal
 use Rattle.std.specs.Prelude.{length}
 
 pub returns-in-Even-clause-width : goal.returns-in-Even-clause-width

@@ -1,4 +1,4 @@
--- What a draft keeps.
+-- What evidence keeps where an entry is put.
 use Rattle.std.proofs.Common.{◌≡◌, ℕ, ◌<◌, List, Option, Some, None, length, sym, ap, ◌∙◌, subst, inl, inr, slice_index_or, slice_set}
 use Rattle.std.specs.Prelude.{IfSome}
 use Rattle.std.proofs.lemmas.Bool.Decides.{eqb_tells}

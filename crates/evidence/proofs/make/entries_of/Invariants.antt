@@ -1,5 +1,0 @@
-use Rattle.evidence.proofs.Making.{IsMade}
-use Rattle.evidence.proofs.make.entries_of.Given as goal
-
-abbrev pub invariant-loop-v : goal.invariant-loop-v
-invariant-loop-v l = IsMade l.game l.settled.values l.v l.entries
