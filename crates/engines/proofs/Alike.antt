@@ -9,14 +9,14 @@ use Rattle.calculus.specs.Normal.{normal_nodes}
 use Rattle.calculus.specs.Rules.{nodes_with}
 use Rattle.calculus.specs.Tree.{Formula}
 use Rattle.calculus.specs.declared.priorities.Priorities.{Priorities}
-use Rattle.witness.specs.Walk.{is_marked}
+use Rattle.witness.specs.Walk.{CountsReached, is_marked}
 use Rattle.workers.specs.declared.team.BoardKind.{BoardKind}
 use Rattle.requests.specs.declared.error.MuError.{MuError}
 use Rattle.requests.specs.Check.{AreMarks, AreSpelled, ByGame}
 use Rattle.requests.specs.declared.texts.Texts.{Texts}
 use Rattle.engines.specs.Play.{IsPlayFound, formula_played, system_played}
 use Rattle.engines.specs.declared.play.PlayFound.{PlayFound}
-use Rattle.engines.specs.Everywhere.{CountsReached, HaveAnswer, HaveMark, IsToldIn, answer_text}
+use Rattle.engines.specs.Everywhere.{HaveAnswer, HaveMark, IsToldIn, answer_text}
 use Rattle.engines.specs.Reasons.{AreReasons, HasGivenReasons, HasNoReasons, IsApart, TellsReasons}
 
 -- two flags of one fact
@@ -53,7 +53,7 @@ module _ (rule : Priorities) (board : Option BoardKind) (l : System) (f : Formul
 
   -- What was written is the line of all states.
   told_same : (limit : ℕ) (first second : List ℕ) (old new : Taken) (count : ℕ) (r : Result Bool MuError)
-      → l.initial < l.states → AreSpelled first second l f → HaveMark l nodes marks × CountsReached l count
+      → l.initial < l.states → AreSpelled first second l f → HaveMark l nodes marks × CountsReached l l.initial count
       → IsToldIn old new (answer_text f answer count) answer r → TellsReasons rule board limit first second old new r
   told_same limit first second old new count r lt spelled alike =
       given r
@@ -88,11 +88,11 @@ module _ (rule : Priorities) (board : Option BoardKind) (l : System) (f : Formul
 
   -- So it is where the marks were lent twice.
   pub told_alike : (limit : ℕ) (first second : List ℕ) (old new : Taken) (count : ℕ) (r : Result Bool MuError) (seen shown : List Bool)
-      → seen ≡ marks → shown ≡ marks → l.initial < l.states → AreSpelled first second l f → HaveMark l nodes seen × CountsReached l count
+      → seen ≡ marks → shown ≡ marks → l.initial < l.states → AreSpelled first second l f → HaveMark l nodes seen × CountsReached l l.initial count
       → IsToldIn old new (answer_text f (is_marked shown l.initial) count) (is_marked shown l.initial) r
       → TellsReasons rule board limit first second old new r
   told_alike limit first second old new count r seen shown es eh lt spelled alike told =
-      told_same limit first second old new count r lt spelled (subst (λ m. HaveMark l nodes m × CountsReached l count) es alike)
+      told_same limit first second old new count r lt spelled (subst (λ m. HaveMark l nodes m × CountsReached l l.initial count) es alike)
       (subst (λ m. IsToldIn old new (answer_text f (is_marked m l.initial) count) (is_marked m l.initial) r) eh told)
 
 -- The marks that were found with the play are those of the texts.

@@ -41,7 +41,7 @@ reasons f answer l nodes most visits heads count =
 pub record AreTold (l : System) (nodes : List Node) (limit : ℕ) (visits : List Visit) (heads : List Bool) (count : ℕ) : Type 0 where
   pub evidence : Evidence
   pub winners : IsWinners l nodes evidence
-  pub telling : IsTelling (arena l nodes) evidence (root_of l nodes) (most_visits limit) visits
+  pub telling : IsTelling l nodes (arena l nodes) evidence (root_of l nodes) (most_visits limit) visits
   pub back : AreHeads visits heads
   pub cut : IsCut nodes visits heads limit count
 
@@ -84,7 +84,7 @@ TellsReasons rule board limit first second old new result =
 
 -- The visits tell the play by this evidence, with what their text is made of.
 pub record IsToldBy (l : System) (ns : List Node) (g : Game) (e : Evidence) (limit : ℕ) (told : PlayVisits) : Type 0 where
-  pub telling : IsTelling g e (root_of l ns) (most_visits limit) told.visits.items
+  pub telling : IsTelling l ns g e (root_of l ns) (most_visits limit) told.visits.items
   pub most : told.most ≡ most_visits limit
   pub back : AreHeads told.visits.items told.heads.items
   pub cut : IsCut ns told.visits.items told.heads.items limit told.count

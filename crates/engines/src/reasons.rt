@@ -189,7 +189,7 @@ fn tell_by(
 {
     let root = root_vertex(system, form, game);
     let most = most_visits(limit);
-    let visits = telling(alloc, game, evidence, root, most)?;
+    let visits = telling(alloc, system, form, game, evidence, root, most)?;
     let heads = heads(alloc, &visits)?;
     let count = told_within(form, &visits, &heads, limit);
     let modalities = modality_texts(alloc, form)?;

@@ -7,9 +7,9 @@ use Rattle.std.proofs.lemmas.Bool.Decides.{nat_tests}
 use Rattle.text.specs.Pieces.{line_end}
 use Rattle.systems.specs.System.{Arrow, IsArrow, System}
 use Rattle.calculus.specs.Nodes.{Node}
-use Rattle.calculus.specs.NormalTree.{Shape}
-use Rattle.why.specs.Story.{blanks_before, end_text, sink_text, shape_at, state_of}
-use Rattle.why.specs.declared.visit.Continuation.TheVariants.{Sink}
+use Rattle.why.specs.Everywhere.{state_of}
+use Rattle.why.specs.Story.{blanks_before, reason_text, stop_text}
+use Rattle.why.specs.declared.visit.Continuation.{Continuation}
 
 -- From a number that is no state no transition leads.
 pub none_from : (n s : ℕ) (arrows : List Arrow) → AllByRecursion (IsArrow n) arrows → n ≤ s → filter (λ (a : Arrow). a.source == s) arrows ≡ []
@@ -24,13 +24,13 @@ same_maps f g [] (y ∷ ys) i x same lt = absurd cc
 same_maps f g (z ∷ xs) (y ∷ ys) zero x same lt = (y, refl, cc)
 same_maps f g (z ∷ xs) (y ∷ ys) (suc i) x same lt = (let e : map f xs ≡ map g ys = cc in same_maps f g xs ys i x e (omega arith))
 
--- the line of a run that ends at a sink
-pub stop_is : (l : System) (nodes : List Node) (v blanks number state : ℕ) (space : List ℕ) (shape : Shape) → space ≡ blanks_before blanks
-    → number ≡ state_of (length nodes) v → state ≡ state_of (length nodes) v → shape ≡ shape_at nodes v
-    → (space ++ (decimal number ++ codes ": ")) ++ (sink_text l state shape ++ line_end) ≡ end_text l nodes v blanks Sink
-stop_is l nodes v blanks number state space shape e_space e_number e_state e_shape =
-    (λ j. (e_space j ++ (decimal (e_number j) ++ codes ": ")) ++ (sink_text l (e_state j) (e_shape j) ++ line_end))
-    ∙ joined (blanks_before blanks) (decimal (state_of (length nodes) v)) (codes ": ") (sink_text l (state_of (length nodes) v) (shape_at nodes v) ++ line_end)
+-- the line of a run that ends
+pub stop_is : (l : System) (nodes : List Node) (v blanks number : ℕ) (space : List ℕ) (kind : Continuation) → space ≡ blanks_before blanks
+    → number ≡ state_of (length nodes) v
+    → (space ++ (decimal number ++ codes ": ")) ++ (reason_text l nodes v kind ++ line_end) ≡ stop_text l nodes v blanks kind
+stop_is l nodes v blanks number space kind e_space e_number =
+    (λ j. (e_space j ++ (decimal (e_number j) ++ codes ": ")) ++ (reason_text l nodes v kind ++ line_end))
+    ∙ joined (blanks_before blanks) (decimal (state_of (length nodes) v)) (codes ": ") (reason_text l nodes v kind ++ line_end)
   where
     joined : (a b c d : List ℕ) → (a ++ (b ++ c)) ++ d ≡ a ++ (b ++ (c ++ d))
     joined a b c d = simp append_assoc

@@ -8,6 +8,8 @@ use Rattle.std.proofs.Math.ListN.{length-set}
 use Rattle.std.proofs.lemmas.Bool.{cases_lt}
 use Rattle.std.proofs.lemmas.Option.{slice_get_within}
 use Rattle.std.proofs.lemmas.List.Elements.{Contains-push_cases, Contains-append_left, Contains-push}
+use Rattle.systems.specs.System.{System}
+use Rattle.calculus.specs.Nodes.{Node}
 use Rattle.game.specs.Game.{Game}
 use Rattle.measures.proofs.Lists.{contains_cases, contains_first, contains_later, contains_none}
 use Rattle.evidence.specs.Evidence.{Entry, Evidence, IsEvidence, IsGood, has}
@@ -18,7 +20,7 @@ use Rattle.witness.proofs.Setting.{one_fewer, set_adds}
 use Rattle.why.specs.Telling.{Comes, GoesOnlyTo, IsOfKind, IsTelling, IsVisit, LeadsOn, WasTold, deeper, goes_on, way_to}
 use Rattle.why.specs.Walk.{HasAdded, HasLetWait, HasTold, HasTwo, IsWalk, IsWalkBy, count_of, way_on}
 use Rattle.why.specs.declared.visit.Continuation.{Continuation}
-use Rattle.why.specs.declared.visit.Continuation.TheVariants.{On, Branch, Sink, Back, Told}
+use Rattle.why.specs.declared.visit.Continuation.TheVariants.{On, Branch, Sink, Back, Told, Everywhere}
 use Rattle.why.specs.declared.visit.Visit.{Visit}
 use Rattle.why.specs.declared.visit.Way.{Way}
 use Rattle.why.specs.declared.walk.Walk.{Walk}
@@ -58,18 +60,19 @@ pub comes_more : (g : Game) (e : Evidence) (root k : ℕ) (vs : List Visit) (x :
 comes_more g e root k vs x way (inl h) = inl h
 comes_more g e root k vs x way (inr h) = inr (h.0, h.1, at_more vs x h.0 h.1 h.2, h.3)
 
-pub kind_more : (g : Game) (e : Evidence) (k u : ℕ) (vs : List Visit) (x : Visit) (kind : Continuation) → IsOfKind g e vs k u kind → IsOfKind g e (vs ++ x ∷ []) k u kind
-kind_more g e k u vs x On h = h
-kind_more g e k u vs x Branch h = h
-kind_more g e k u vs x Sink h = h
-kind_more g e k u vs x (Back i) h = record {
+pub kind_more : (lts : System) (ns : List Node) (g : Game) (e : Evidence) (k u : ℕ) (vs : List Visit) (x : Visit) (kind : Continuation) → IsOfKind lts ns g e vs k u kind → IsOfKind lts ns g e (vs ++ x ∷ []) k u kind
+kind_more lts ns g e k u vs x On h = h
+kind_more lts ns g e k u vs x Branch h = h
+kind_more lts ns g e k u vs x Sink h = h
+kind_more lts ns g e k u vs x (Back i) h = record {
   visit = h.visit;
   is = at_more vs x i h.visit h.is;
   vertex = h.vertex;
   earlier = h.earlier;
   run = λ j low high. (let r = h.run j low high in (r.0, at_more vs x j r.0 r.1, r.2));
 }
-kind_more g e k u vs x Told h = record {
+kind_more lts ns g e k u vs x (Everywhere n) h = h
+kind_more lts ns g e k u vs x Told h = record {
   number = h.number;
   visit = h.visit;
   is = at_more vs x h.number h.visit h.is;
@@ -98,8 +101,8 @@ has_within g e u is h = subst (λ n. u < n) is.long (got e.entries u h)
 
 -- ------------------------------------------------------------------ a visit is added
 
-module _ (g : Game) (e : Evidence) (root : ℕ) (told : List Bool) (vs : List Visit) (start : ℕ) (waiting : List Way) (way : Way) (kind : Continuation)
-    (is : IsWalk g e root told vs start waiting (Some way)) (right : IsOfKind g e vs (length vs) way.vertex kind) where
+module _ (lts : System) (ns : List Node) (g : Game) (e : Evidence) (root : ℕ) (told : List Bool) (vs : List Visit) (start : ℕ) (waiting : List Way) (way : Way) (kind : Continuation)
+    (is : IsWalk lts ns g e root told vs start waiting (Some way)) (right : IsOfKind lts ns g e vs (length vs) way.vertex kind) where
   abbrev visit : Visit
   visit = record { way = way; kind = kind }
 
@@ -127,7 +130,7 @@ module _ (g : Game) (e : Evidence) (root : ℕ) (told : List Bool) (vs : List Vi
       → ((w : Way) → Contains waiting w → Contains ways w)
       → (IsTrue (goes_on kind) → (t : ℕ) → Goes g e way.vertex t
       → (w : Way) × Leads w × (w.vertex ≡ t) × ((after ≡ Some w) ⊎ (Contains ways w × (kind ≡ Branch))))
-      → IsWalk g e root marks now begin ways after
+      → IsWalk lts ns g e root marks now begin ways after
   walk_more marks begin ways after same marked run ended next waits stays onward = record {
     long = same ∙ is.long;
     begins = inl (let l = long in omega (arith, l));
@@ -137,9 +140,9 @@ module _ (g : Game) (e : Evidence) (root : ℕ) (told : List Bool) (vs : List Vi
           (subst (λ (w : Visit). Comes g e root now (length vs) w.way) new.1 (comes_more g e root (length vs) vs visit way (is.next way refl).0))
     ];
     kinds = λ k v at. elim (at_cases vs visit k v at) [
-      | inl old ↦ kind_more g e k v.way.vertex vs visit v.kind (is.kinds k v old)
-      | inr new ↦ subst (λ n. IsOfKind g e now n v.way.vertex v.kind) (sym new.0)
-          (subst (λ (w : Visit). IsOfKind g e now (length vs) w.way.vertex w.kind) new.1 (kind_more g e (length vs) way.vertex vs visit kind right))
+      | inl old ↦ kind_more lts ns g e k v.way.vertex vs visit v.kind (is.kinds k v old)
+      | inr new ↦ subst (λ n. IsOfKind lts ns g e now n v.way.vertex v.kind) (sym new.0)
+          (subst (λ (w : Visit). IsOfKind lts ns g e now (length vs) w.way.vertex w.kind) new.1 (kind_more lts ns g e (length vs) way.vertex vs visit kind right))
     ];
     told = λ u m. elim (marked u m) [
       | inl old ↦ (let t = is.told u old in (t.0, t.1, at_more vs visit t.0 t.1 t.2, t.3, t.4))
@@ -169,21 +172,21 @@ module _ (g : Game) (e : Evidence) (root : ℕ) (told : List Bool) (vs : List Vi
   }
 
 -- it ends its run
-pub walk_ends_run : (g : Game) (e : Evidence) (root : ℕ) (told : List Bool) (vs : List Visit) (start : ℕ) (waiting : List Way) (way : Way) (kind : Continuation)
-    → goes_on kind ≡ false → IsWalk g e root told vs start waiting (Some way) → IsOfKind g e vs (length vs) way.vertex kind
-    → IsWalk g e root told (vs ++ record { way = way; kind = kind } ∷ []) (length vs + 1) waiting None
-walk_ends_run g e root told vs start waiting way kind ends is right =
-    walk_more g e root told vs start waiting way kind is right told (length vs + 1) waiting None refl (λ u m. inl m)
+pub walk_ends_run : (lts : System) (ns : List Node) (g : Game) (e : Evidence) (root : ℕ) (told : List Bool) (vs : List Visit) (start : ℕ) (waiting : List Way) (way : Way) (kind : Continuation)
+    → goes_on kind ≡ false → IsWalk lts ns g e root told vs start waiting (Some way) → IsOfKind lts ns g e vs (length vs) way.vertex kind
+    → IsWalk lts ns g e root told (vs ++ record { way = way; kind = kind } ∷ []) (length vs + 1) waiting None
+walk_ends_run lts ns g e root told vs start waiting way kind ends is right =
+    walk_more lts ns g e root told vs start waiting way kind is right told (length vs + 1) waiting None refl (λ u m. inl m)
     (λ j low high. let l = length-append vs (record { way = way; kind = kind } ∷ []) in absurd (omega (arith, l, low, high)))
     (inr (length vs, record { way = way; kind = kind }, omega arith, at_last vs _, λ on. true≢false (sym (ap goes_on on) ∙ ends)))
     (λ w none. absurd cc) (λ w c. inl c) (λ w c. c) (λ yes. absurd (true≢false (sym yes ∙ ends)))
 
 -- the play has one way on
-pub walk_goes_on : (g : Game) (e : Evidence) (root : ℕ) (told : List Bool) (vs : List Visit) (start : ℕ) (waiting : List Way) (way : Way) (t : ℕ)
-    → IsGood g e → IsWalk g e root told vs start waiting (Some way) → 2 ≤ t → GoesOnlyTo g e way.vertex t
-    → IsWalk g e root (slice_set told way.vertex true) (vs ++ record { way = way; kind = On } ∷ []) start waiting (Some (way_on way way.blanks t))
-walk_goes_on g e root told vs start waiting way t good is high goes =
-    walk_more g e root told vs start waiting way On is (t, high, goes) (slice_set told way.vertex true) start waiting (Some (way_on way way.blanks t))
+pub walk_goes_on : (lts : System) (ns : List Node) (g : Game) (e : Evidence) (root : ℕ) (told : List Bool) (vs : List Visit) (start : ℕ) (waiting : List Way) (way : Way) (t : ℕ)
+    → IsGood g e → IsWalk lts ns g e root told vs start waiting (Some way) → 2 ≤ t → GoesOnlyTo g e way.vertex t
+    → IsWalk lts ns g e root (slice_set told way.vertex true) (vs ++ record { way = way; kind = On } ∷ []) start waiting (Some (way_on way way.blanks t))
+walk_goes_on lts ns g e root told vs start waiting way t good is high goes =
+    walk_more lts ns g e root told vs start waiting way On is (t, high, goes) (slice_set told way.vertex true) start waiting (Some (way_on way way.blanks t))
     (length-set told way.vertex true)
     (λ u m. elim (set_adds told way.vertex u m) [ inl old ↦ inl old | inr e ↦ inr (e, refl) ])
     (λ j low below. elim (cases_lt j (length vs)) [
@@ -204,11 +207,11 @@ walk_goes_on g e root told vs start waiting way t good is high goes =
     lead = record { later = omega arith; next = λ _. refl; goes_on = refl; from = refl; goes = goes.0; blanks = refl }
 
 -- the play has several
-pub walk_branches : (g : Game) (e : Evidence) (root : ℕ) (told : List Bool) (vs : List Visit) (start : ℕ) (waiting ways : List Way) (way : Way) (ts : List ℕ)
-    → IsWalk g e root told vs start waiting (Some way) → AreGoals g e way.vertex ts → HasTwo ts → HasLetWait way ts waiting ways
-    → IsWalk g e root (slice_set told way.vertex true) (vs ++ record { way = way; kind = Branch } ∷ []) (length vs + 1) ways None
-walk_branches g e root told vs start waiting ways way ts is goals two w =
-    walk_more g e root told vs start waiting way Branch is (two.0, two.1, two.2, (goals two.0).1 two.3, (goals two.1).1 two.4)
+pub walk_branches : (lts : System) (ns : List Node) (g : Game) (e : Evidence) (root : ℕ) (told : List Bool) (vs : List Visit) (start : ℕ) (waiting ways : List Way) (way : Way) (ts : List ℕ)
+    → IsWalk lts ns g e root told vs start waiting (Some way) → AreGoals g e way.vertex ts → HasTwo ts → HasLetWait way ts waiting ways
+    → IsWalk lts ns g e root (slice_set told way.vertex true) (vs ++ record { way = way; kind = Branch } ∷ []) (length vs + 1) ways None
+walk_branches lts ns g e root told vs start waiting ways way ts is goals two w =
+    walk_more lts ns g e root told vs start waiting way Branch is (two.0, two.1, two.2, (goals two.0).1 two.3, (goals two.1).1 two.4)
     (slice_set told way.vertex true) (length vs + 1) ways None (length-set told way.vertex true)
     (λ u m. elim (set_adds told way.vertex u m) [ inl old ↦ inl old | inr e ↦ inr (e, refl) ])
     (λ j low high. let l = length-append vs (new ∷ []) in absurd (omega (arith, l, low, high)))
@@ -228,9 +231,9 @@ walk_branches g e root told vs start waiting ways way ts is goals two w =
     lead t go = record { later = omega arith; next = λ on. absurd cc; goes_on = refl; from = refl; goes = go; blanks = refl }
 
 -- what waited last is next
-pub walk_pops : (g : Game) (e : Evidence) (root : ℕ) (told : List Bool) (vs : List Visit) (start : ℕ) (waiting : List Way) (way : Way) → IsGood g e
-    → IsWalk g e root told vs start (waiting ++ way ∷ []) None → IsWalk g e root told vs start waiting (Some way)
-walk_pops g e root told vs start waiting way good is = record {
+pub walk_pops : (lts : System) (ns : List Node) (g : Game) (e : Evidence) (root : ℕ) (told : List Bool) (vs : List Visit) (start : ℕ) (waiting : List Way) (way : Way) → IsGood g e
+    → IsWalk lts ns g e root told vs start (waiting ++ way ∷ []) None → IsWalk lts ns g e root told vs start waiting (Some way)
+walk_pops lts ns g e root told vs start waiting way good is = record {
   long = is.long;
   begins = inr (way, refl);
   comes = is.comes;
@@ -255,9 +258,9 @@ walk_pops g e root told vs start waiting way good is = record {
 }
 
 -- the root is next
-pub walk_begins : (g : Game) (e : Evidence) (root : ℕ) (told : List Bool) → length told ≡ length g.vertices → ((u : ℕ) → IsTrue (is_marked told u) → ⊥)
-    → IsTrue (has e root) → IsWalk g e root told [] 0 [] (Some (way_to root))
-walk_begins g e root told long none there = record {
+pub walk_begins : (lts : System) (ns : List Node) (g : Game) (e : Evidence) (root : ℕ) (told : List Bool) → length told ≡ length g.vertices → ((u : ℕ) → IsTrue (is_marked told u) → ⊥)
+    → IsTrue (has e root) → IsWalk lts ns g e root told [] 0 [] (Some (way_to root))
+walk_begins lts ns g e root told long none there = record {
   long = long;
   begins = inr (way_to root, refl);
   comes = λ k v at. absurd (no_visit k v at);
@@ -279,9 +282,9 @@ first_visit [] h = absurd (omega arith)
 first_visit (v ∷ xs) h = (v, refl)
 
 -- nothing is next or waits
-pub walk_ends : (g : Game) (e : Evidence) (root most : ℕ) (told : List Bool) (vs : List Visit) (start : ℕ) (waiting : List Way) → length waiting ≡ 0
-    → IsWalk g e root told vs start waiting None → IsTelling g e root most vs
-walk_ends g e root most told vs start waiting none is = record {
+pub walk_ends : (lts : System) (ns : List Node) (g : Game) (e : Evidence) (root most : ℕ) (told : List Bool) (vs : List Visit) (start : ℕ) (waiting : List Way) → length waiting ≡ 0
+    → IsWalk lts ns g e root told vs start waiting None → IsTelling lts ns g e root most vs
+walk_ends lts ns g e root most told vs start waiting none is = record {
   begins = elim is.begins [ inl some ↦ first_visit vs some | inr h ↦ absurd (no_way h.0 h.1) ];
   comes = is.comes;
   kinds = is.kinds;
@@ -295,9 +298,9 @@ walk_ends g e root most told vs start waiting none is = record {
     no_way w h = cc
 
 -- there are so many visits
-pub walk_stops : (g : Game) (e : Evidence) (root most : ℕ) (told : List Bool) (vs : List Visit) (start : ℕ) (waiting : List Way) (next : Option Way) → 0 < most
-    → most ≤ length vs → IsWalk g e root told vs start waiting next → IsTelling g e root most vs
-walk_stops g e root most told vs start waiting next some many is = record {
+pub walk_stops : (lts : System) (ns : List Node) (g : Game) (e : Evidence) (root most : ℕ) (told : List Bool) (vs : List Visit) (start : ℕ) (waiting : List Way) (next : Option Way) → 0 < most
+    → most ≤ length vs → IsWalk lts ns g e root told vs start waiting next → IsTelling lts ns g e root most vs
+walk_stops lts ns g e root most told vs start waiting next some many is = record {
   begins = first_visit vs (omega arith);
   comes = is.comes;
   kinds = is.kinds;
@@ -306,23 +309,23 @@ walk_stops g e root most told vs start waiting next some many is = record {
 
 -- ------------------------------------------------------------------ a way is told
 
-by_added : (g : Game) (e : Evidence) (root : ℕ) (way : Way) (kind : Continuation) (old new : Walk) (marks : List Bool) (begin : ℕ) (after : Option Way)
+by_added : (lts : System) (ns : List Node) (g : Game) (e : Evidence) (root : ℕ) (way : Way) (kind : Continuation) (old new : Walk) (marks : List Bool) (begin : ℕ) (after : Option Way)
     → HasAdded way kind old new marks begin
-    → IsWalk g e root marks (old.visits.items ++ record { way = way; kind = kind } ∷ []) begin new.waiting.items after → IsWalkBy g e root new after
-by_added g e root way kind old new marks begin after is h =
-    subst (λ ms. IsWalk g e root ms new.visits.items new.start new.waiting.items after) (sym is.told)
-    (subst (λ vs. IsWalk g e root marks vs new.start new.waiting.items after) (sym is.visits)
-    (subst (λ n. IsWalk g e root marks (old.visits.items ++ record { way = way; kind = kind } ∷ []) n new.waiting.items after) (sym is.start) h))
+    → IsWalk lts ns g e root marks (old.visits.items ++ record { way = way; kind = kind } ∷ []) begin new.waiting.items after → IsWalkBy lts ns g e root new after
+by_added lts ns g e root way kind old new marks begin after is h =
+    subst (λ ms. IsWalk lts ns g e root ms new.visits.items new.start new.waiting.items after) (sym is.told)
+    (subst (λ vs. IsWalk lts ns g e root marks vs new.start new.waiting.items after) (sym is.visits)
+    (subst (λ n. IsWalk lts ns g e root marks (old.visits.items ++ record { way = way; kind = kind } ∷ []) n new.waiting.items after) (sym is.start) h))
 
-pub told_end : (g : Game) (e : Evidence) (way : Way) (kind : Continuation) (old new : Walk) (r : Result (Option Way) Memory) → goes_on kind ≡ false
-    → ((root : ℕ) → IsWalkBy g e root old (Some way) → IsOfKind g e old.visits.items (length old.visits.items) way.vertex kind)
+pub told_end : (lts : System) (ns : List Node) (g : Game) (e : Evidence) (way : Way) (kind : Continuation) (old new : Walk) (r : Result (Option Way) Memory) → goes_on kind ≡ false
+    → ((root : ℕ) → IsWalkBy lts ns g e root old (Some way) → IsOfKind lts ns g e old.visits.items (length old.visits.items) way.vertex kind)
     → IfOk r (λ next. next ≡ None) → IfOk r (λ _. HasAdded way kind old new old.told.items (length old.visits.items + 1))
-    → IfOk r (λ _. new.waiting.items ≡ old.waiting.items) → IfOk r (HasTold g e way old new)
-told_end g e way kind old new (Err x) ends right none added waiting = tt
-told_end g e way kind old new (Ok next) ends right none added waiting = record {
-  walk = λ root is. subst (λ o. IsWalkBy g e root new o) (sym none) (by_added g e root way kind old new old.told.items (length old.visits.items + 1) None added
-      (subst (λ ws. IsWalk g e root old.told.items (old.visits.items ++ record { way = way; kind = kind } ∷ []) (length old.visits.items + 1) ws None) (sym waiting)
-      (walk_ends_run g e root old.told.items old.visits.items old.start old.waiting.items way kind ends is (right root is))));
+    → IfOk r (λ _. new.waiting.items ≡ old.waiting.items) → IfOk r (HasTold lts ns g e way old new)
+told_end lts ns g e way kind old new (Err x) ends right none added waiting = tt
+told_end lts ns g e way kind old new (Ok next) ends right none added waiting = record {
+  walk = λ root is. subst (λ o. IsWalkBy lts ns g e root new o) (sym none) (by_added lts ns g e root way kind old new old.told.items (length old.visits.items + 1) None added
+      (subst (λ ws. IsWalk lts ns g e root old.told.items (old.visits.items ++ record { way = way; kind = kind } ∷ []) (length old.visits.items + 1) ws None) (sym waiting)
+      (walk_ends_run lts ns g e root old.told.items old.visits.items old.start old.waiting.items way kind ends is (right root is))));
   falls = (let m = ap unmarked_vertices added.told in let w = ap length waiting in let n = ap count_of none in
       let same : unmarked_vertices new.told.items * suc (length g.vertices) ≡ unmarked_vertices old.told.items * suc (length g.vertices)
       = ap (λ k. k * suc (length g.vertices)) m in
@@ -336,18 +339,18 @@ fewer told u n lt new = let one = one_fewer told u lt new in
     let more : unmarked_vertices told * suc n ≡ suc (unmarked_vertices (slice_set told u true)) * suc n = ap (λ k. k * suc n) (sym one) in
     grind (arith, more)
 
-pub told_on : (g : Game) (e : Evidence) (way : Way) (t : ℕ) (old new : Walk) (r : Result (Option Way) Memory) → IsGood g e → 2 ≤ t → GoesOnlyTo g e way.vertex t
+pub told_on : (lts : System) (ns : List Node) (g : Game) (e : Evidence) (way : Way) (t : ℕ) (old new : Walk) (r : Result (Option Way) Memory) → IsGood g e → 2 ≤ t → GoesOnlyTo g e way.vertex t
     → way.vertex < length old.told.items → is_marked old.told.items way.vertex ≡ false
     → IfOk r (λ next. next ≡ Some (way_on way way.blanks t))
     → IfOk r (λ _. HasAdded way On old new (slice_set old.told.items way.vertex true) old.start)
-    → IfOk r (λ _. new.waiting.items ≡ old.waiting.items) → IfOk r (HasTold g e way old new)
-told_on g e way t old new (Err x) good high goes within fresh is added waiting = tt
-told_on g e way t old new (Ok next) good high goes within fresh is added waiting =
+    → IfOk r (λ _. new.waiting.items ≡ old.waiting.items) → IfOk r (HasTold lts ns g e way old new)
+told_on lts ns g e way t old new (Err x) good high goes within fresh is added waiting = tt
+told_on lts ns g e way t old new (Ok next) good high goes within fresh is added waiting =
     let marks = slice_set old.told.items way.vertex true in
     record {
-      walk = λ root w. subst (λ o. IsWalkBy g e root new o) (sym is) (by_added g e root way On old new marks old.start (Some (way_on way way.blanks t)) added
-          (subst (λ ws. IsWalk g e root marks (old.visits.items ++ record { way = way; kind = On } ∷ []) old.start ws (Some (way_on way way.blanks t))) (sym waiting)
-          (walk_goes_on g e root old.told.items old.visits.items old.start old.waiting.items way t good w high goes)));
+      walk = λ root w. subst (λ o. IsWalkBy lts ns g e root new o) (sym is) (by_added lts ns g e root way On old new marks old.start (Some (way_on way way.blanks t)) added
+          (subst (λ ws. IsWalk lts ns g e root marks (old.visits.items ++ record { way = way; kind = On } ∷ []) old.start ws (Some (way_on way way.blanks t))) (sym waiting)
+          (walk_goes_on lts ns g e root old.told.items old.visits.items old.start old.waiting.items way t good w high goes)));
       falls = (let w = ap length waiting in let n = ap count_of is in
           let same : unmarked_vertices new.told.items * suc (length g.vertices) ≡ unmarked_vertices marks * suc (length g.vertices)
           = ap (λ ms. unmarked_vertices ms * suc (length g.vertices)) added.told in
@@ -355,16 +358,16 @@ told_on g e way t old new (Ok next) good high goes within fresh is added waiting
           omega (arith, same, w, n, less));
     }
 
-pub told_branch : (g : Game) (e : Evidence) (way : Way) (ts : List ℕ) (old new : Walk) (r : Result (Option Way) Memory) → AreGoals g e way.vertex ts → HasTwo ts
+pub told_branch : (lts : System) (ns : List Node) (g : Game) (e : Evidence) (way : Way) (ts : List ℕ) (old new : Walk) (r : Result (Option Way) Memory) → AreGoals g e way.vertex ts → HasTwo ts
     → length ts ≤ length g.vertices → way.vertex < length old.told.items → is_marked old.told.items way.vertex ≡ false → IfOk r (λ next. next ≡ None)
     → IfOk r (λ _. HasAdded way Branch old new (slice_set old.told.items way.vertex true) (length old.visits.items + 1))
-    → IfOk r (λ _. HasLetWait way ts old.waiting.items new.waiting.items) → IfOk r (HasTold g e way old new)
-told_branch g e way ts old new (Err x) goals two few within fresh is added waiting = tt
-told_branch g e way ts old new (Ok next) goals two few within fresh is added waiting =
+    → IfOk r (λ _. HasLetWait way ts old.waiting.items new.waiting.items) → IfOk r (HasTold lts ns g e way old new)
+told_branch lts ns g e way ts old new (Err x) goals two few within fresh is added waiting = tt
+told_branch lts ns g e way ts old new (Ok next) goals two few within fresh is added waiting =
     let marks = slice_set old.told.items way.vertex true in
     record {
-      walk = λ root w. subst (λ o. IsWalkBy g e root new o) (sym is) (by_added g e root way Branch old new marks (length old.visits.items + 1) None added
-          (walk_branches g e root old.told.items old.visits.items old.start old.waiting.items new.waiting.items way ts w goals two waiting));
+      walk = λ root w. subst (λ o. IsWalkBy lts ns g e root new o) (sym is) (by_added lts ns g e root way Branch old new marks (length old.visits.items + 1) None added
+          (walk_branches lts ns g e root old.told.items old.visits.items old.start old.waiting.items new.waiting.items way ts w goals two waiting));
       falls = (let w = waiting.long in let n = ap count_of is in
           let same : unmarked_vertices new.told.items * suc (length g.vertices) ≡ unmarked_vertices marks * suc (length g.vertices)
           = ap (λ ms. unmarked_vertices ms * suc (length g.vertices)) added.told in
@@ -392,10 +395,10 @@ wait_more from x ts old ways h = record {
     on t = way_on from (deeper from.blanks) t
 
 -- the vertex was told of in another run
-pub met_told : (g : Game) (e : Evidence) (root : ℕ) (w : Walk) (next : Option Way) (u : ℕ) → IsWalkBy g e root w next → IsTrue (is_marked w.told.items u)
+pub met_told : (lts : System) (ns : List Node) (g : Game) (e : Evidence) (root : ℕ) (w : Walk) (next : Option Way) (u : ℕ) → IsWalkBy lts ns g e root w next → IsTrue (is_marked w.told.items u)
     → ((j : ℕ) (v : Visit) → w.start ≤ j → j < length w.visits.items → IsVisit w.visits.items j v → v.way.vertex ≢ u)
     → WasTold w.visits.items (length w.visits.items) u
-met_told g e root w next u is marked none =
+met_told lts ns g e root w next u is marked none =
     let t = is.told u marked in
     let below = at_below w.visits.items t.0 t.1 t.2 in
     elim (cases_lt t.0 w.start) [
@@ -418,10 +421,10 @@ met_told g e root w next u is marked none =
     ]
 
 -- what waited last is told of next
-pub told_pop : (g : Game) (e : Evidence) (way : Way) (old mid new : Walk) (o : Option Way) → IsGood g e → new.told.items ≡ mid.told.items
-    → new.visits.items ≡ mid.visits.items → new.start ≡ mid.start → mid.waiting.items ≡ new.waiting.items ++ option_to_list o → HasTold g e way old mid None
-    → HasTold g e way old new o
-told_pop g e way old mid new o good told visits start is h = by o is
+pub told_pop : (lts : System) (ns : List Node) (g : Game) (e : Evidence) (way : Way) (old mid new : Walk) (o : Option Way) → IsGood g e → new.told.items ≡ mid.told.items
+    → new.visits.items ≡ mid.visits.items → new.start ≡ mid.start → mid.waiting.items ≡ new.waiting.items ++ option_to_list o → HasTold lts ns g e way old mid None
+    → HasTold lts ns g e way old new o
+told_pop lts ns g e way old mid new o good told visits start is h = by o is
   where
     n : ℕ
     n = length g.vertices
@@ -429,20 +432,20 @@ told_pop g e way old mid new o good told visits start is h = by o is
     marks : unmarked_vertices new.told.items * suc n ≡ unmarked_vertices mid.told.items * suc n
     marks = ap (λ ms. unmarked_vertices ms * suc n) told
 
-    same : (root : ℕ) (ws : List Way) (o : Option Way) → IsWalk g e root mid.told.items mid.visits.items mid.start ws o
-        → IsWalk g e root new.told.items new.visits.items new.start ws o
-    same root ws o w = subst (λ ms. IsWalk g e root ms new.visits.items new.start ws o) (sym told)
-        (subst (λ vs. IsWalk g e root mid.told.items vs new.start ws o) (sym visits)
-        (subst (λ b. IsWalk g e root mid.told.items mid.visits.items b ws o) (sym start) w))
+    same : (root : ℕ) (ws : List Way) (o : Option Way) → IsWalk lts ns g e root mid.told.items mid.visits.items mid.start ws o
+        → IsWalk lts ns g e root new.told.items new.visits.items new.start ws o
+    same root ws o w = subst (λ ms. IsWalk lts ns g e root ms new.visits.items new.start ws o) (sym told)
+        (subst (λ vs. IsWalk lts ns g e root mid.told.items vs new.start ws o) (sym visits)
+        (subst (λ b. IsWalk lts ns g e root mid.told.items mid.visits.items b ws o) (sym start) w))
 
-    by : (o : Option Way) → mid.waiting.items ≡ new.waiting.items ++ option_to_list o → HasTold g e way old new o
+    by : (o : Option Way) → mid.waiting.items ≡ new.waiting.items ++ option_to_list o → HasTold lts ns g e way old new o
     by None is = record {
-      walk = λ root w. same root new.waiting.items None (subst (λ ws. IsWalk g e root mid.told.items mid.visits.items mid.start ws None) (is ∙ append-nil new.waiting.items)
+      walk = λ root w. same root new.waiting.items None (subst (λ ws. IsWalk lts ns g e root mid.told.items mid.visits.items mid.start ws None) (is ∙ append-nil new.waiting.items)
           (h.walk root w));
       falls = (let f = h.falls in let l = ap length is in let one = length-append new.waiting.items [] in omega (arith, f, l, one, marks));
     }
     by (Some w) is = record {
-      walk = λ root all. same root new.waiting.items (Some w) (walk_pops g e root mid.told.items mid.visits.items mid.start new.waiting.items w good
-          (subst (λ ws. IsWalk g e root mid.told.items mid.visits.items mid.start ws None) is (h.walk root all)));
+      walk = λ root all. same root new.waiting.items (Some w) (walk_pops lts ns g e root mid.told.items mid.visits.items mid.start new.waiting.items w good
+          (subst (λ ws. IsWalk lts ns g e root mid.told.items mid.visits.items mid.start ws None) is (h.walk root all)));
       falls = (let f = h.falls in let l = ap length is in let one = length-append new.waiting.items (w ∷ []) in omega (arith, f, l, one, marks));
     }

@@ -1,3 +1,4 @@
+pub mod Everywhere
 pub mod Telling
 pub mod Walk
 pub mod Story

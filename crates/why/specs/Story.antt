@@ -14,15 +14,12 @@ use Rattle.calculus.specs.Holds.{holds}
 use Rattle.calculus.specs.Nodes.{Node}
 use Rattle.calculus.specs.NormalTree.{Shape, ConstantNode, ModalityNode}
 use Rattle.calculus.specs.declared.limits.TheConstants.{MOST_NODES}
+use Rattle.why.specs.Everywhere.{StepTest, asked_test, node_of, state_of}
 use Rattle.why.specs.Telling.{goes_on}
 use Rattle.why.specs.declared.visit.Continuation.{Continuation}
-use Rattle.why.specs.declared.visit.Continuation.TheVariants.{On, Branch, Sink, Back, Told}
+use Rattle.why.specs.declared.visit.Continuation.TheVariants.{On, Branch, Sink, Back, Told, Everywhere}
 use Rattle.why.specs.declared.visit.Visit.{Visit}
 use Rattle.why.specs.declared.visit.TheConstants.{MOST_BLANKS, MOST_COLUMNS, MOST_SHOWN}
-
--- the state of a vertex, where there are so many nodes
-abbrev pub state_of : ℕ → ℕ → ℕ
-state_of nodes v = (v - 2) / nodes
 
 abbrev pub shape_in : Option Node → Shape
 shape_in None = ConstantNode true
@@ -30,7 +27,7 @@ shape_in (Some node) = node.shape
 
 -- what the node of a vertex is
 abbrev pub shape_at : List Node → ℕ → Shape
-shape_at nodes v = shape_in (slice_get nodes ((v - 2) % length nodes))
+shape_at nodes v = shape_in (slice_get nodes (node_of (length nodes) v))
 
 abbrev pub blanks_before : ℕ → List ℕ
 blanks_before n = take n (replicate MOST_BLANKS 32)
@@ -141,14 +138,32 @@ sink_text l s (ConstantNode flag) = if flag then codes "true here" else codes "f
 sink_text l s (ModalityNode flag a child) = lack_text l s a
 sink_text l s _ = []
 
+abbrev pub which_text : (possible : Bool) → List ℕ
+which_text possible = if possible then codes "from here each of " else codes "from here none of "
+
+-- that each of so many states has a step by an action, or that none has
+abbrev pub everywhere_text : (count : ℕ) → Option StepTest → List ℕ
+everywhere_text n None = []
+everywhere_text n (Some test) = (which_text test.possible ++ (decimal n ++ codes " states has a step by ")) ++ action_text test.action
+
+-- why a run ends: only a sink follows, or what the fixpoint asks is so everywhere, or the rest was told in another run
+abbrev pub reason_text : System → List Node → (vertex : ℕ) → Continuation → List ℕ
+reason_text l nodes v Sink = sink_text l (state_of (length nodes) v) (shape_at nodes v)
+reason_text l nodes v (Everywhere n) = everywhere_text n (asked_test nodes (node_of (length nodes) v))
+reason_text l nodes v Told = codes "as above"
+reason_text l nodes v _ = []
+
+-- at which state a run ends, and why
+abbrev pub stop_text : System → List Node → (vertex blanks : ℕ) → Continuation → List ℕ
+stop_text l nodes v blanks kind =
+    blanks_before blanks ++ (decimal (state_of (length nodes) v) ++ (codes ": " ++ (reason_text l nodes v kind ++ line_end)))
+
 -- how a run ends
 abbrev pub end_text : System → List Node → (vertex blanks : ℕ) → Continuation → List ℕ
 end_text l nodes v blanks On = []
 end_text l nodes v blanks Branch = []
-end_text l nodes v blanks Sink =
-    blanks_before blanks ++ (decimal (state_of (length nodes) v) ++ (codes ": " ++ (sink_text l (state_of (length nodes) v) (shape_at nodes v) ++ line_end)))
 end_text l nodes v blanks (Back i) = blanks_before blanks ++ (codes "back to " ++ (decimal (state_of (length nodes) v) ++ line_end))
-end_text l nodes v blanks Told = blanks_before blanks ++ (decimal (state_of (length nodes) v) ++ (codes ": as above" ++ line_end))
+end_text l nodes v blanks kind = stop_text l nodes v blanks kind
 
 -- the vertex from which the last step was taken, where a line of the same run tells it
 abbrev pub step_after : List Node → Continuation → (from before : Option ℕ) → Option ℕ

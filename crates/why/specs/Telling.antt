@@ -1,11 +1,14 @@
 -- A telling of a play: the vertices that it passes, run by run.
 use Rattle.std.specs.Prelude.{◌≡◌, ◌≢◌, ℕ, suc, ◌+◌, ◌≤◌, ◌<◌, ◌⊎◌, Bool, true, false, List, length, IsTrue, Some, None, nat_lt, slice_get, if◌then◌else◌}
+use Rattle.systems.specs.System.{System}
+use Rattle.calculus.specs.Nodes.{Node}
 use Rattle.game.specs.Game.{Game}
 use Rattle.evidence.specs.Evidence.{Evidence}
 use Rattle.evidence.specs.Witness.{Goes}
 use Rattle.witness.specs.Witness.{GoesOneWayFrom}
+use Rattle.why.specs.Everywhere.{IsEverywhere}
 use Rattle.why.specs.declared.visit.Continuation.{Continuation}
-use Rattle.why.specs.declared.visit.Continuation.TheVariants.{On, Branch, Sink, Back, Told}
+use Rattle.why.specs.declared.visit.Continuation.TheVariants.{On, Branch, Sink, Back, Told, Everywhere}
 use Rattle.why.specs.declared.visit.Visit.{Visit}
 use Rattle.why.specs.declared.visit.Way.{Way}
 use Rattle.why.specs.declared.visit.TheConstants.{MOST_BLANKS}
@@ -73,19 +76,20 @@ pub record ComesBack (visits : List Visit) (k u i : ℕ) : Type 0 where
   pub run : (j : ℕ) → i ≤ j → j < k → (w : Visit) × IsVisit visits j w × (w.kind ≡ On)
 
 -- What is told of the visit of number k to this vertex is so: the play has one way on; or it has several; or its only way on is to a sink; or it was at the
--- vertex before, in this run or in another.
-abbrev pub IsOfKind : Game → Evidence → List Visit → ℕ → ℕ → Continuation → Type 0
-IsOfKind g e visits k u On = (t : ℕ) × (2 ≤ t) × GoesOnlyTo g e u t
-IsOfKind g e visits k u Branch = (s t : ℕ) × (s ≢ t) × Goes g e u s × Goes g e u t
-IsOfKind g e visits k u Sink = (t : ℕ) × (t < 2) × GoesOnlyTo g e u t
-IsOfKind g e visits k u (Back i) = ComesBack visits k u i
-IsOfKind g e visits k u Told = WasTold visits k u
+-- vertex before, in this run or in another; or what its fixpoint asks is so of all states that can be reached.
+abbrev pub IsOfKind : System → List Node → Game → Evidence → List Visit → ℕ → ℕ → Continuation → Type 0
+IsOfKind l nodes g e visits k u On = (t : ℕ) × (2 ≤ t) × GoesOnlyTo g e u t
+IsOfKind l nodes g e visits k u Branch = (s t : ℕ) × (s ≢ t) × Goes g e u s × Goes g e u t
+IsOfKind l nodes g e visits k u Sink = (t : ℕ) × (t < 2) × GoesOnlyTo g e u t
+IsOfKind l nodes g e visits k u (Back i) = ComesBack visits k u i
+IsOfKind l nodes g e visits k u Told = WasTold visits k u
+IsOfKind l nodes g e visits k u (Everywhere n) = IsEverywhere l nodes u n
 
 -- The visits tell the play by the evidence from the root: it comes to each of them, and each is of its kind; and wherever the play goes on from a visit, a
 -- later one follows, unless there are so many.
-pub record IsTelling (g : Game) (e : Evidence) (root most : ℕ) (visits : List Visit) : Type 0 where
+pub record IsTelling (l : System) (nodes : List Node) (g : Game) (e : Evidence) (root most : ℕ) (visits : List Visit) : Type 0 where
   pub begins : (v : Visit) × IsVisit visits 0 v
   pub comes : (k : ℕ) (v : Visit) → IsVisit visits k v → Comes g e root visits k v.way
-  pub kinds : (k : ℕ) (v : Visit) → IsVisit visits k v → IsOfKind g e visits k v.way.vertex v.kind
+  pub kinds : (k : ℕ) (v : Visit) → IsVisit visits k v → IsOfKind l nodes g e visits k v.way.vertex v.kind
   pub follows : length visits < most → (i : ℕ) (v : Visit) (t : ℕ) → IsVisit visits i v → IsTrue (goes_on v.kind) → Goes g e v.way.vertex t
       → (k : ℕ) × (w : Visit) × IsVisit visits k w × LeadsOn g e i v k w.way × (w.way.vertex ≡ t)

@@ -1,5 +1,7 @@
 -- A walk along a play, as it tells its visits.
 use Rattle.std.specs.Prelude.{◌≡◌, ◌≢◌, ℕ, suc, ◌+◌, ◌*◌, ◌≤◌, ◌<◌, ◌⊎◌, Bool, List, [], ◌∷◌, ◌++◌, length, IsTrue, Contains, Option, Some, None}
+use Rattle.systems.specs.System.{System}
+use Rattle.calculus.specs.Nodes.{Node}
 use Rattle.game.specs.Game.{Game}
 use Rattle.evidence.specs.Evidence.{Evidence, has}
 use Rattle.evidence.specs.Witness.{Goes}
@@ -28,11 +30,11 @@ AreAll targets (Many others) = (targets ≡ others.now) × (length targets ≢ 1
 
 -- What is told so far, where these ways wait, and one is next: the vertices that are marked were told further, the run is the visits from its start on, and
 -- wherever the play goes on from a visit, a later one follows or a way waits.
-pub record IsWalk (g : Game) (e : Evidence) (root : ℕ) (marks : List Bool) (visits : List Visit) (begin : ℕ) (waiting : List Way) (after : Option Way) : Type 0 where
+pub record IsWalk (l : System) (nodes : List Node) (g : Game) (e : Evidence) (root : ℕ) (marks : List Bool) (visits : List Visit) (begin : ℕ) (waiting : List Way) (after : Option Way) : Type 0 where
   pub long : length marks ≡ length g.vertices
   pub begins : (0 < length visits) ⊎ ((way : Way) × (after ≡ Some way))
   pub comes : (k : ℕ) (v : Visit) → IsVisit visits k v → Comes g e root visits k v.way
-  pub kinds : (k : ℕ) (v : Visit) → IsVisit visits k v → IsOfKind g e visits k v.way.vertex v.kind
+  pub kinds : (k : ℕ) (v : Visit) → IsVisit visits k v → IsOfKind l nodes g e visits k v.way.vertex v.kind
   pub told : (u : ℕ) → IsTrue (is_marked marks u) → (i : ℕ) × (v : Visit) × IsVisit visits i v × (v.way.vertex ≡ u) × IsTrue (goes_on v.kind)
   pub run : (j : ℕ) → begin ≤ j → j < length visits → (v : Visit) × IsVisit visits j v × (v.kind ≡ On)
   pub ended : (begin ≡ 0) ⊎ ((i : ℕ) × (v : Visit) × (begin ≡ suc i) × IsVisit visits i v × (v.kind ≢ On))
@@ -42,13 +44,13 @@ pub record IsWalk (g : Game) (e : Evidence) (root : ℕ) (marks : List Bool) (vi
       → ((k : ℕ) × (w : Visit) × IsVisit visits k w × LeadsOn g e i v k w.way × (w.way.vertex ≡ t))
       ⊎ ((way : Way) × LeadsOn g e i v (length visits) way × (way.vertex ≡ t) × ((after ≡ Some way) ⊎ (Contains waiting way × (v.kind ≡ Branch))))
 
-abbrev pub IsWalkBy : Game → Evidence → ℕ → Walk → Option Way → Type 0
-IsWalkBy g e root w next = IsWalk g e root w.told.items w.visits.items w.start w.waiting.items next
+abbrev pub IsWalkBy : System → List Node → Game → Evidence → ℕ → Walk → Option Way → Type 0
+IsWalkBy l nodes g e root w next = IsWalk l nodes g e root w.told.items w.visits.items w.start w.waiting.items next
 
 -- The kind is that of a visit that comes to the vertex next.
-abbrev pub IsNextKind : Walk → ℕ → Continuation → Type 0
-IsNextKind w u kind = (g : Game) (e : Evidence) (root : ℕ) (next : Option Way) → IsWalkBy g e root w next
-    → IsOfKind g e w.visits.items (length w.visits.items) u kind
+abbrev pub IsNextKind : System → List Node → Game → Evidence → Walk → ℕ → Continuation → Type 0
+IsNextKind l nodes g e w u kind = (root : ℕ) (next : Option Way) → IsWalkBy l nodes g e root w next
+    → IsOfKind l nodes g e w.visits.items (length w.visits.items) u kind
 
 abbrev pub count_of : Option Way → ℕ
 count_of None = 0
@@ -59,8 +61,8 @@ abbrev pub left : (vertices : ℕ) → Walk → Option Way → ℕ
 left vertices w next = unmarked_vertices w.told.items * suc vertices + (length w.waiting.items + count_of next)
 
 -- The way was told of, and another is next or none is.
-pub record HasTold (g : Game) (e : Evidence) (way : Way) (old new : Walk) (next : Option Way) : Type 0 where
-  pub walk : (root : ℕ) → IsWalkBy g e root old (Some way) → IsWalkBy g e root new next
+pub record HasTold (l : System) (nodes : List Node) (g : Game) (e : Evidence) (way : Way) (old new : Walk) (next : Option Way) : Type 0 where
+  pub walk : (root : ℕ) → IsWalkBy l nodes g e root old (Some way) → IsWalkBy l nodes g e root new next
   pub falls : left (length g.vertices) new next < left (length g.vertices) old (Some way)
 
 -- A visit was added, with these marks and this start of the run.

@@ -30,6 +30,8 @@ pub enum Continuation {
     Back(usize),
     /// As it was told in another run.
     Told,
+    /// As it would from each state that is reachable, of which there are so many: what its fixpoint asks is so in all of them.
+    Everywhere(usize),
 }
 
 /// A vertex to which a play comes. A run is what is told from one that ends to the next: each of its visits but the last has one way on.

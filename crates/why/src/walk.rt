@@ -1,20 +1,30 @@
 // The walk along a play.
 
-ghost use Rattle.std.specs.Prelude.{◌≡◌, ◌<◌, ◌+◌, ℕ, false, true, Some, None, IfOk, OnOk, IsTrue, Option, length, slice_set};
-ghost use Rattle.evidence.specs.Evidence.{IsGood, has as has_entry};
-ghost use Rattle.game.specs.Game.{Vertex, vertex};
+ghost use Rattle.std.specs.Prelude.{◌≡◌, ◌<◌, ◌≤◌, ◌+◌, ℕ, List, false, true, Some, None, IfOk, IfSome, OnOk, IsTrue, Option, length, slice_set};
+ghost use Rattle.systems.specs.System.{System};
+ghost use Rattle.calculus.specs.Nodes.{Node};
+ghost use Rattle.calculus.specs.Normal.{normal_nodes};
+ghost use Rattle.evidence.specs.Evidence.{Evidence as EntrySet, IsGood, has as has_entry};
+ghost use Rattle.game.specs.Game.{Game, Vertex, vertex};
 ghost use Rattle.witness.specs.Walk.{is_marked as is_marked_in};
 ghost use Rattle.why.specs.Telling.{IsTelling, deeper as deeper_of, goes_on as is_told_further};
 ghost use Rattle.why.specs.Walk.{AreAll, AreWaysFrom, HasAdded, HasLetWait, HasTold, IsNextKind, IsWalkBy, way_on as way_on_by};
 
+use crate::everywhere::everywhere;
 use crate::visit::{Continuation, MOST_BLANKS, Visit, Way};
+use calculus::form::Normal;
 use evidence::evidence::Evidence;
 use game::graph::Game;
+use game::player::Player;
+use lts::Lts;
 use std::alloc::Global;
 use text::Memory;
 
 /// The first vertex that is no sink.
 const FIRST_PLACE: u32 = 2;
+
+/// How many states and transitions may be looked at for what is so of all reachable states, which takes a second.
+const MOST_LOOKS: usize = 40_000_000;
 
 /// What is told so far, with a mark for each vertex from which the play was told further, and what waits to be told.
 #[derive(Drop)]
@@ -39,6 +49,8 @@ pub enum Ways<'a> {
 /// Out of memory.
 pub fn telling(
     alloc: Global,
+    system: &Lts,
+    form: &Normal,
     game: &Game,
     evidence: &Evidence,
     root: u32,
@@ -49,7 +61,7 @@ pub fn telling(
     requires root { IsTrue (has_entry evidence.now.evidence root) }
     requires some { 0 < most }
 
-    ensures { IfOk result (λ visits. IsTelling game.now evidence.now.evidence root most visits.items) }
+    ensures { IfOk result (λ visits. IsTelling system.now.system (normal_nodes form.now) game.now evidence.now.evidence root most visits.items) }
 {
     evidence.known();
     let mut walk = Walk {
@@ -63,55 +75,95 @@ pub fn telling(
         vertex: root,
         blanks: 0,
     });
+    let mut spare = MOST_LOOKS;
     while let Some(way) = next {
         if walk.visits.len() >= most {
             return Ok(walk.visits);
         }
-        next = step(game, evidence, way, &mut walk)?;
+        next = step(
+            alloc, system, form, game, evidence, way, &mut walk, &mut spare,
+        )?;
     }
     Ok(walk.visits)
 }
 
 /// Tells of the vertex to which a way leads. The answer is the way that is told of next, if one is.
-fn step(game: &Game, evidence: &Evidence, way: Way, walk: &mut Walk) -> Result<Option<Way>, Memory>
+fn step(
+    alloc: Global,
+    system: &Lts,
+    form: &Normal,
+    game: &Game,
+    evidence: &Evidence,
+    way: Way,
+    walk: &mut Walk,
+    spare: &mut usize,
+) -> Result<Option<Way>, Memory>
     requires same { evidence.now.game ≡ game.now }
     requires good { IsGood game.now evidence.now.evidence }
-    requires walk { (root : ℕ) × IsWalkBy game.now evidence.now.evidence root walk.old (Some way) }
+    requires walk { (root : ℕ) × IsWalkBy system.now.system (normal_nodes form.now) game.now evidence.now.evidence root walk.old (Some way) }
 
-    ensures told { IfOk result (HasTold game.now evidence.now.evidence way walk.old walk.new) }
+    ensures told { IfOk result (HasTold system.now.system (normal_nodes form.now) game.now evidence.now.evidence way walk.old walk.new) }
     ensures end { IfOk result (λ next. next ≡ None → length walk.new.waiting.items ≡ 0) }
 {
-    match tell(game, evidence, way, walk)? {
+    match tell(alloc, system, form, game, evidence, way, walk, spare)? {
         Some(next) => Ok(Some(next)),
         None => Ok(walk.waiting.pop()),
     }
 }
 
 /// Tells of the vertex to which a way leads. The answer is the only way on from there, if the play is told further and has one.
-fn tell(game: &Game, evidence: &Evidence, way: Way, walk: &mut Walk) -> Result<Option<Way>, Memory>
+fn tell(
+    alloc: Global,
+    system: &Lts,
+    form: &Normal,
+    game: &Game,
+    evidence: &Evidence,
+    way: Way,
+    walk: &mut Walk,
+    spare: &mut usize,
+) -> Result<Option<Way>, Memory>
     requires same { evidence.now.game ≡ game.now }
     requires good { IsGood game.now evidence.now.evidence }
-    requires walk { (root : ℕ) × IsWalkBy game.now evidence.now.evidence root walk.old (Some way) }
-    ensures { IfOk result (HasTold game.now evidence.now.evidence way walk.old walk.new) }
+    requires walk { (root : ℕ) × IsWalkBy system.now.system (normal_nodes form.now) game.now evidence.now.evidence root walk.old (Some way) }
+    ensures { IfOk result (HasTold system.now.system (normal_nodes form.now) game.now evidence.now.evidence way walk.old walk.new) }
 {
     evidence.known();
-    let told = is_marked(&walk.told, way.vertex);
-    match ways_from(game, evidence, way.vertex) {
-        Ways::One(next) if next < FIRST_PLACE => end(way, Continuation::Sink, walk),
-        Ways::One(next) => {
-            if told {
-                end(way, met(way.vertex, walk), walk)
-            } else {
-                go_on(way, next, walk)
-            }
-        }
-        Ways::Many(targets) => {
-            if told {
-                end(way, met(way.vertex, walk), walk)
-            } else {
-                branch(way, targets, walk)
-            }
-        }
+    let winner = evidence.player();
+    let ways = ways_from(game, evidence, way.vertex);
+    match ending(alloc, system, form, winner, way.vertex, ways, walk, spare)? {
+        Some(kind) => end(way, kind, walk),
+        None => match ways {
+            Ways::One(next) => go_on(way, next, walk),
+            Ways::Many(targets) => branch(way, targets, walk),
+        },
+    }
+}
+
+/// Why the play isn't told further from a vertex, if it is not: only a sink follows, or it was told before, or what its fixpoint asks is so of all reachable
+/// states.
+fn ending(
+    alloc: Global,
+    system: &Lts,
+    form: &Normal,
+    winner: Player,
+    u: u32,
+    ways: Ways<'_>,
+    walk: &Walk,
+    spare: &mut usize,
+) -> Result<Option<Continuation>, Memory>
+    ensures ends { IfOk result (λ found. IfSome found (λ kind. is_told_further kind ≡ false)) }
+    ensures kind { (g : Game) (e : EntrySet) → AreWaysFrom g e u ways.entry
+        → IfOk result (λ found. IfSome found (IsNextKind system.now.system (normal_nodes form.now) g e walk.now u)) }
+    ensures fresh { IfOk result (λ found. found ≡ None → is_marked_in walk.now.told.items u ≡ false) }
+    ensures high { IfOk result (λ found. found ≡ None → (t : ℕ) → ways.entry ≡ Ways.One t → 2 ≤ t) }
+{
+    match ways {
+        Ways::One(next) if next < FIRST_PLACE => Ok(Some(Continuation::Sink)),
+        _ if is_marked(&walk.told, u) => Ok(Some(met(u, walk))),
+        _ => match everywhere(alloc, system, form, winner, u, spare)? {
+            Some(count) => Ok(Some(Continuation::Everywhere(count))),
+            None => Ok(None),
+        },
     }
 }
 
@@ -157,7 +209,7 @@ fn all_ways<'a>(game: &'a Game, u: u32) -> Ways<'a>
 fn met(u: u32, walk: &Walk) -> Continuation
     requires told { IsTrue (is_marked_in walk.now.told.items u) }
     ensures ends { is_told_further result ≡ false }
-    ensures kind { IsNextKind walk.now u result }
+    ensures kind { (l : System) (nodes : List Node) (g : Game) (e : EntrySet) → IsNextKind l nodes g e walk.now u result }
 {
     for i in walk.start..walk.visits.len() {
         if walk.visits[i].way.vertex == u {

@@ -7,17 +7,19 @@ ghost use Rattle.calculus.specs.View.{action_of};
 ghost use Rattle.calculus.specs.Normal.{normal_nodes};
 ghost use Rattle.calculus.specs.NodeView.{shape_of};
 ghost use Rattle.why.specs.declared.visit.TheConstants.{MOST_SHOWN};
-ghost use Rattle.why.specs.Story.{action_at as action_at_of, action_in as action_in_of, arrow_text, blanks_before, by_text, end_text, first_label as first_label_of, from_of, head_text, lack_text, long_before, long_line, long_with};
-ghost use Rattle.why.specs.Story.{modality_at as modality_at_of, modality_of, modality_told as modality_told_of, number_from, shape_at, sink_text, state_of as state_in};
-ghost use Rattle.why.specs.Story.{step_before as step_before_of, step_text, rest_text, story_text, told_text, way_text};
+ghost use Rattle.why.specs.Story.{action_at as action_at_of, action_in as action_in_of, arrow_text, blanks_before, by_text, end_text, everywhere_text, first_label as first_label_of, from_of, head_text, lack_text, long_before, long_line, long_with};
+ghost use Rattle.why.specs.Story.{modality_at as modality_at_of, modality_of, modality_told as modality_told_of, number_from, reason_text, shape_at, sink_text};
+ghost use Rattle.why.specs.Everywhere.{asked_test as asked_test_of, node_of as node_in, state_of as state_in, test_of};
+ghost use Rattle.why.specs.Story.{step_before as step_before_of, step_text, rest_text, stop_text, story_text, told_text, way_text, which_text};
 
+use crate::everywhere::{StepTest, asked_test};
 use crate::setting::{is_head, put_between};
 use crate::visit::{Continuation, MOST_BLANKS, MOST_COLUMNS, MOST_SHOWN, Visit, Way};
 use arrayvec::ArrayVec;
 use calculus::form::Normal;
 use calculus::limits::MOST_NODES;
 use calculus::tree::Act;
-use calculus::{holds, node};
+use calculus::{holds, node, put_action};
 use lts::{Lts, Transition};
 use text::sink::Sink;
 use text::{Lines, Piece, WriteFault, put, put_lines, put_pieces};
@@ -363,8 +365,8 @@ fn action_in(kind: &node::Kind) -> Option<&Act>
 }
 
 /// The number of a vertex's node.
-fn node_of(normal: &Normal, v: u32) -> u32
-    ensures number { result ≡ (v - 2) % length (normal_nodes normal.now) }
+pub(crate) fn node_of(normal: &Normal, v: u32) -> u32
+    ensures number { result ≡ node_in (length (normal_nodes normal.now)) v }
     ensures within { result < length (normal_nodes normal.now) }
 {
     normal.known();
@@ -379,7 +381,7 @@ fn kind_at(normal: &Normal, v: u32) -> &node::Kind
 }
 
 /// The state of a vertex.
-fn state_of(normal: &Normal, v: u32) -> u32
+pub(crate) fn state_of(normal: &Normal, v: u32) -> u32
     ensures { result ≡ state_in (length (normal_nodes normal.now)) v }
 {
     normal.known();
@@ -443,34 +445,31 @@ fn put_end<W: Sink>(
     ensures { let s = story.now in Wrote (W.taken out.old) (W.taken out.new) result
         (end_text s.system.now.system (normal_nodes s.normal.now) v blanks kind) }
 {
-    let state = state_of(story.normal, v);
-    let begin = Piece::Bytes(blanks_of(blanks));
-    let number = Piece::Number(u64::from(state));
     match kind {
         Continuation::On | Continuation::Branch => Ok(()),
         Continuation::Back(_) => put_pieces(
             out,
             &[
-                begin,
+                Piece::Bytes(blanks_of(blanks)),
                 Piece::Bytes(b"back to "),
-                number,
+                Piece::Number(u64::from(state_of(story.normal, v))),
                 Piece::Bytes(b"\n"),
             ],
         ),
-        Continuation::Told => put_pieces(out, &[begin, number, Piece::Bytes(b": as above\n")]),
-        Continuation::Sink => put_stop(story, v, blanks, out),
+        _ => put_stop(story, v, blanks, kind, out),
     }
 }
 
-/// Writes that a run ends since only a sink follows.
+/// Writes that a run ends at a state, and why.
 fn put_stop<W: Sink>(
     story: &Story<'_>,
     v: u32,
     blanks: usize,
+    kind: Continuation,
     out: &mut W,
 ) -> Result<(), WriteFault>
     ensures { let s = story.now in Wrote (W.taken out.old) (W.taken out.new) result
-        (end_text s.system.now.system (normal_nodes s.normal.now) v blanks Continuation.Sink) }
+        (stop_text s.system.now.system (normal_nodes s.normal.now) v blanks kind) }
 {
     let state = state_of(story.normal, v);
     put_pieces(
@@ -481,8 +480,68 @@ fn put_stop<W: Sink>(
             Piece::Bytes(b": "),
         ],
     )?;
-    put_sink(story.system, state, kind_at(story.normal, v), out)?;
+    put_reason(story, v, kind, out)?;
     put(out, b"\n")
+}
+
+/// Writes why a run ends.
+fn put_reason<W: Sink>(
+    story: &Story<'_>,
+    v: u32,
+    kind: Continuation,
+    out: &mut W,
+) -> Result<(), WriteFault>
+    ensures { let s = story.now in Wrote (W.taken out.old) (W.taken out.new) result
+        (reason_text s.system.now.system (normal_nodes s.normal.now) v kind) }
+{
+    let Story { system, normal, .. } = *story;
+    match kind {
+        Continuation::Sink => put_sink(system, state_of(normal, v), kind_at(normal, v), out),
+        Continuation::Everywhere(count) => put_everywhere(normal, v, count, out),
+        Continuation::Told => put(out, b"as above"),
+        _ => Ok(()),
+    }
+}
+
+/// Writes what is so of all states that are reachable from that of a vertex, of which there are so many.
+fn put_everywhere<W: Sink>(
+    form: &Normal,
+    v: u32,
+    count: usize,
+    out: &mut W,
+) -> Result<(), WriteFault>
+    ensures { let nodes = normal_nodes form.now in Wrote (W.taken out.old) (W.taken out.new) result
+        (everywhere_text count (asked_test_of nodes (node_in (length nodes) v))) }
+{
+    match asked_test(form, node_of(form, v)) {
+        Some(test) => put_test(test, count, out),
+        None => Ok(()),
+    }
+}
+
+/// Writes that each of so many states has a step by an action, or that none has.
+fn put_test<W: Sink>(test: StepTest<'_>, count: usize, out: &mut W) -> Result<(), WriteFault>
+    ensures { Wrote (W.taken out.old) (W.taken out.new) result (everywhere_text count (Some (test_of test.entry))) }
+{
+    put_pieces(
+        out,
+        &[
+            Piece::Bytes(which_states(test.possible)),
+            Piece::Number(count as u64),
+            Piece::Bytes(b" states has a step by "),
+        ],
+    )?;
+    put_action(test.action, out)
+}
+
+fn which_states(possible: bool) -> &'static [u8]
+    ensures { result.now ≡ which_text possible }
+{
+    if possible {
+        b"from here each of "
+    } else {
+        b"from here none of "
+    }
 }
 
 /// Writes why only a sink follows.

@@ -1,5 +1,5 @@
 -- A walk over what is reached: by the play vertices, by steps states.
-use Rattle.std.specs.Prelude.{◌≡◌, ℕ, suc, ◌+◌, ◌⊎◌, ◌↔◌, Bool, false, List, [], ◌∷◌, length, Contains, IsTrue, slice_index_or, if◌then◌else◌}
+use Rattle.std.specs.Prelude.{◌≡◌, ℕ, suc, ◌+◌, ◌⊎◌, ◌↔◌, Bool, false, List, [], ◌∷◌, length, Contains, IsTrue, count_by, slice_index_or, if◌then◌else◌}
 use Rattle.systems.specs.Path.{IsPath}
 use Rattle.systems.specs.System.{System}
 use Rattle.calculus.specs.Meaning.{Leads}
@@ -47,11 +47,17 @@ pub record IsMarkedWalk (size : ℕ) (R : ℕ → ℕ → Type 0) (root : ℕ) (
   pub follows : (u t : ℕ) → IsTrue (is_marked marks u) → R u t → IsTrue (is_marked marks t) ⊎ Contains waiting u
   pub known : (u : ℕ) → Contains waiting u → IsTrue (is_marked marks u)
 
--- The state can be reached from the initial one by steps of any label.
-abbrev pub CanBeReached : System → ℕ → Type 0
-CanBeReached l s = Leads l (Star (Step Anything)) l.initial s
+-- The state is reachable from that one by steps of any label.
+abbrev pub CanBeReached : System → (from : ℕ) → ℕ → Type 0
+CanBeReached l from s = Leads l (Star (Step Anything)) from s
 
--- one mark for each state, true where it can be reached
-pub record MarksReached (l : System) (marks : List Bool) : Type 0 where
+-- one mark for each state, true where it is reachable from that one
+pub record MarksReached (l : System) (from : ℕ) (marks : List Bool) : Type 0 where
   pub long : length marks ≡ l.states
-  pub exact : (s : ℕ) → IsTrue (is_marked marks s) ↔ CanBeReached l s
+  pub exact : (s : ℕ) → IsTrue (is_marked marks s) ↔ CanBeReached l from s
+
+-- So many states are reachable from that one.
+pub record CountsReached (l : System) (from n : ℕ) : Type 0 where
+  pub marks : List Bool
+  pub reached : MarksReached l from marks
+  pub count : n ≡ count_by (λ mark. mark) marks

@@ -1,6 +1,6 @@
 // The vertices that the play reaches, and the states that can be reached.
 
-ghost use Rattle.std.specs.Prelude.{◌≡◌, ◌<◌, ◌∷◌, [], ℕ, List, IfOk, OnOk, length};
+ghost use Rattle.std.specs.Prelude.{◌≡◌, ◌<◌, ◌∷◌, [], ℕ, List, IfOk, OnOk, count_by, length};
 ghost use Rattle.std.specs.List.{AllByRecursion};
 ghost use Rattle.evidence.specs.Evidence.{IsGood};
 ghost use Rattle.evidence.specs.Witness.{AreReached};
@@ -104,15 +104,23 @@ fn follow_steps(
     Ok(())
 }
 
-/// A mark for each state, true where it can be reached from the initial one.
-pub fn reached_states(alloc: Global, system: &Lts) -> Result<Vec<bool>, Memory>
-    ensures { IfOk result (λ marks. MarksReached system.now.system marks.items) }
+/// A mark for each state, true where it is reachable from this one.
+pub fn reached_states(alloc: Global, system: &Lts, from: u32) -> Result<Vec<bool>, Memory>
+    requires { from < system.now.system.states }
+    ensures { IfOk result (λ marks. MarksReached system.now.system from marks.items) }
 {
     let mut marks = vec![in alloc; false; system.states() as usize]?;
     let mut waiting = Vec::new(alloc);
-    visit(&mut marks, &mut waiting, system.initial())?;
+    visit(&mut marks, &mut waiting, from)?;
     while let Some(state) = waiting.pop() {
         follow_steps(system, state, &mut marks, &mut waiting)?;
     }
     Ok(marks)
+}
+
+/// How many states are marked.
+pub fn count_marked(marks: &[bool]) -> usize
+    ensures { result ≡ count_by (λ mark. mark) marks.now }
+{
+    marks.iter().filter(|mark| **mark).count()
 }

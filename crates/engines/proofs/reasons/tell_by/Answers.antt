@@ -14,8 +14,8 @@ returns c =
     let limit = c.args.limit in
     record {
       most = c.most_visits-most.ensures.many;
-      telling = subst (λ v. IsTelling g e v (most_visits limit) c.in_ok-visits.visits.items) c.root_vertex-root.ensures.root
-          (subst (λ n. IsTelling g e c.root_vertex-root.result n c.in_ok-visits.visits.items) c.most_visits-most.ensures.many c.in_ok-visits.ensures);
+      telling = subst (λ v. IsTelling c.args.system.now.system (normal_nodes c.args.form.now) g e v (most_visits limit) c.in_ok-visits.visits.items) c.root_vertex-root.ensures.root
+          (subst (λ n. IsTelling c.args.system.now.system (normal_nodes c.args.form.now) g e c.root_vertex-root.result n c.in_ok-visits.visits.items) c.most_visits-most.ensures.many c.in_ok-visits.ensures);
       back = subst (λ vs. AreHeads vs heads) c.deref.ensures.value c.in_ok-heads.ensures;
       cut = subst (λ vs. IsCut nodes vs heads limit c.told_within-count.result) c.deref-2.ensures.value
           (subst (λ hs. IsCut nodes c.deref-2.result.now hs limit c.told_within-count.result) c.deref-3.ensures.value c.told_within-count.ensures);
