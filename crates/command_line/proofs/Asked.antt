@@ -1,29 +1,32 @@
 -- What is read of the matches.
-use Rattle.std.proofs.Common.{◌≡◌, ◌∙◌, refl, subst, sym, ℕ, ◌<◌, ◌^◌, List, Option, Some, None, Result, Ok, Err}
-use Rattle.std.specs.Prelude.{option_map}
-use Rattle.std.specs.Borrow.{Bor}
-use Rattle.std.specs.Str.Parse.{IsNumeral, ParsesUnsigned, digits_value, without_leading_plus}
-use Rattle.clap.specs.Words.{Text, TriesOne, first_of, first_value, one_of, one_text, rows_of}
+use Rattle.std.proofs.Common.{◌≡◌, ◌∙◌, ◌≤◌, ap, arith, refl, subst, sym, ℕ, ◌<◌, ◌^◌, List, Option, Some, None, Result, Ok, Err}
+use Rattle.std.specs.Prelude.{IfSome, option_map}
+use Rattle.std.specs.Str.Parse.{ParsesUnsigned, digits_value, without_leading_plus}
+use Rattle.clap.specs.Words.{Text, TriesOne, one_of, one_text, rows_of, subcommand_rows_of}
+use Rattle.clap.specs.declared.parser.matches.ArgMatches.{ArgMatches}
 use Rattle.clap.specs.declared.parser.matches.Found.{Found}
-use Rattle.clap.proofs.WalkLemmas.{first_value-rows, one_text-rows}
-use Rattle.command_line.specs.CommandLine.{IsNumberOf}
+use Rattle.clap.proofs.WalkLemmas.{one_text-rows}
+use Rattle.command_line.specs.declared.request.Command.{Command}
+use Rattle.command_line.specs.CommandLine.{AreMatchesOf, IsAskedFor, IsNumeralWithin, IsRead}
 
--- the text of an argument, by the rows
-pub value_read : (f : Found) (id : Text) (found : Option (Bor Text)) → option_map (λ s. s.now) found ≡ first_value f id
-    → first_of id (rows_of f) ≡ option_map (λ s. s.now) found
-value_read f id found is = sym (first_value-rows f id) ∙ sym is
+-- a command that is read of the matches is asked for
+pub asked_by : (words : List Text) (matches : ArgMatches) (command : Command) → AreMatchesOf words matches → IsRead (subcommand_rows_of matches) command
+    → IsAskedFor words command
+asked_by words matches command found read = record {
+  app = found.app;
+  table = found.table;
+  read = subst (λ o. IsRead o command) found.rows read;
+}
 
 -- ------------------------------------------------------------------ numbers
 
--- the number of the text, if there is one; where there is none, the text has no number
-abbrev pub AreRead : {E : Type 0} → Option Text → Result (Option ℕ) E → Type 0
-AreRead text (Ok found) = IsNumberOf text found
-AreRead text (Err e) = (found : Option ℕ) → IsNumberOf text found → ⊥
+abbrev number_of : Text → ℕ
+number_of text = digits_value 10 (without_leading_plus text)
 
-unread : (t : List ℕ) → (IsNumeral 10 (without_leading_plus t) × (digits_value 10 (without_leading_plus t) < 2 ^ 32) → ⊥)
-    → (found : Option ℕ) → IsNumberOf (Some t) found → ⊥
-unread t none None is = is
-unread t none (Some n) is = none (is.numeral, subst (λ (m : ℕ). m < 2 ^ 32) is.value is.fits)
+-- the number of the text, if there is one; or a refusal, where the text has none of 32 bits
+abbrev pub AreRead : {E : Type 0} → Option Text → Result (Option ℕ) E → Type 0
+AreRead text (Ok found) = (found ≡ option_map number_of text) × IfSome text (IsNumeralWithin 0 4294967295)
+AreRead text (Err e) = IfSome text (IsNumeralWithin 0 4294967295) → ⊥
 
 -- what was tried to be read
 pub number_read : (E : Type 0) (G : List ℕ → Result ℕ E → Type 0) (f : Found) (id : Text) (r : Result (Option ℕ) E)
@@ -36,13 +39,36 @@ number_read E G f id r reads none value = go (one_text f id) refl
     tried t (Ok None) h = absurd h
     tried t (Ok (Some n)) h =
         let read = reads t (Ok n) h in
-        record { numeral = read.0.0; value = read.1; fits = subst (λ (m : ℕ). m < 2 ^ 32) (sym read.1) read.0.1 }
-    tried t (Err e) h = unread t (reads t (Err e) h)
+        let fits = read.0.1 in
+        (ap Some read.1, record { numeral = read.0.0; above = omega arith; below = omega arith })
+    tried t (Err e) h = λ within.
+        let below = within.below in
+        reads t (Err e) h (within.numeral, omega arith)
 
     go : (o : Option Text) → one_text f id ≡ o → AreRead (one_of id (rows_of f)) r
     go None e =
         let at : one_of id (rows_of f) ≡ None = sym (one_text-rows f id) ∙ e in
-        rw (none e, at) tt
+        rw (none e, at) (refl, tt)
     go (Some t) e =
         let at : one_of id (rows_of f) ≡ Some t = sym (one_text-rows f id) ∙ e in
         rw at (tried t r (value t e))
+
+-- a numeral between these is one of 32 bits
+pub loosened : (text : Option Text) (least most : ℕ) → most ≤ 4294967295 → IfSome text (IsNumeralWithin least most) → IfSome text (IsNumeralWithin 0 4294967295)
+loosened None least most fits within = tt
+loosened (Some t) least most fits within =
+    let below = within.below in
+    record { numeral = within.numeral; above = omega arith; below = omega arith }
+
+-- the text is a numeral between these just where its number is
+pub narrowed : (text : Option Text) (found : Option ℕ) (least most : ℕ) → found ≡ option_map number_of text → IfSome text (IsNumeralWithin 0 4294967295)
+    → IfSome found (λ n. (least ≤ n) × (n ≤ most)) → IfSome text (IsNumeralWithin least most)
+narrowed None found least most is numeral within = tt
+narrowed (Some t) found least most is numeral within =
+    let between : IfSome (Some (number_of t)) (λ n. (least ≤ n) × (n ≤ most)) = rw is at within in
+    record { numeral = numeral.numeral; above = between.0; below = between.1 }
+
+pub widened : (text : Option Text) (found : Option ℕ) (least most : ℕ) → found ≡ option_map number_of text → IfSome text (IsNumeralWithin least most)
+    → IfSome found (λ n. (least ≤ n) × (n ≤ most))
+widened None found least most is within = rw is tt
+widened (Some t) found least most is within = rw is (within.above, within.below)

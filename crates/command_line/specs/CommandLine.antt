@@ -1,5 +1,7 @@
 -- What the words of a command line ask for, as they are read by the program's table.
-use Rattle.std.specs.Prelude.{◌≡◌, ◌<◌, ◌^◌, ℕ, Bool, false, true, List, Option, None, Some, codes, if◌then◌else◌, map, option_map}
+use Rattle.std.specs.Prelude.{◌≡◌, ◌≢◌, ◌≤◌, ◌==◌, ℕ, Bool, false, true, not, IfSome, IsTrue, List, [], length, Option, None, Some, codes, if◌then◌else◌, map}
+use Rattle.std.specs.Prelude.{option_map, unwrap_or}
+use Rattle.std.specs.List.{list_all}
 use Rattle.std.specs.Borrow.{Bor}
 use Rattle.std.specs.Option.{option_map_or}
 use Rattle.std.specs.Str.{bytes_eq}
@@ -36,20 +38,24 @@ has_value rows id value = option_map_or (λ text. bytes_eq text value) (first_of
 abbrev pub stands : List Row → (id : Text) → Bool
 stands rows id = has_value rows id (codes "true")
 
--- the text is a numeral of this number, which has 32 bits
-pub record IsNumber (text : Text) (n : ℕ) : Type 0 where
+-- the number that the option gives, if it stands
+abbrev pub number_in : List Row → (id : Text) → Option ℕ
+number_in rows id = option_map (λ text. digits_value 10 (without_leading_plus text)) (one_of id rows)
+
+-- the text is a numeral of a number between these
+pub record IsNumeralWithin (least most : ℕ) (text : Text) : Type 0 where
   pub numeral : IsNumeral 10 (without_leading_plus text)
-  pub value : n ≡ digits_value 10 (without_leading_plus text)
-  pub fits : n < 2 ^ 32
+  pub above : least ≤ digits_value 10 (without_leading_plus text)
+  pub below : digits_value 10 (without_leading_plus text) ≤ most
 
--- the number that the text has, or else the default
-abbrev pub IsNumberOr : Option Text → (default n : ℕ) → Type 0
-IsNumberOr None default n = n ≡ default
-IsNumberOr (Some text) default n = IsNumber text n
+-- what the option gives, if it stands, is one
+abbrev pub IsWithin : List Row → (id : Text) → (least most : ℕ) → Type 0
+IsWithin rows id least most = IfSome (one_of id rows) (IsNumeralWithin least most)
 
--- the number that the option gives, or else the default
-abbrev pub IsNumberIn : List Row → (id : Text) → (default n : ℕ) → Type 0
-IsNumberIn rows id default n = IsNumberOr (one_of id rows) default n
+-- the number between these that the option gives, or else the default
+pub record IsNumber (rows : List Row) (id : Text) (least most default n : ℕ) : Type 0 where
+  pub value : n ≡ unwrap_or (number_in rows id) default
+  pub within : IsWithin rows id least most
 
 -- the rule that is asked for, or else the nested one
 abbrev pub priorities_in : List Row → Priorities
@@ -61,53 +67,47 @@ board_in rows =
     if has_value rows (codes "board") (codes "locked") then board.Locked
     else (if has_value rows (codes "board") (codes "packed") then board.Packed else board.Auto)
 
--- the argument names this file, or gives this word
+-- the argument names this file, or gives this word; or it stands nowhere where there is none
+pub record IsFileIfAny (rows : List Row) (id : Text) (file : Option (Bor Text)) : Type 0 where
+  pub stands : first_of id rows ≡ option_map (λ f. f.now) file
+  pub named : IfSome file (λ f. f.now ≢ [])
+
+-- it names this file
 abbrev pub IsFile : List Row → (id : Text) → Bor Text → Type 0
-IsFile rows id file = first_of id rows ≡ Some file.now
+IsFile rows id file = IsFileIfAny rows id (Some file)
+
+abbrev pub is_named : Text → Bool
+is_named name = not (length name == 0)
 
 -- it names these files, in their order
-abbrev pub AreFiles : List Row → (id : Text) → List (Bor Text) → Type 0
-AreFiles rows id files = all_of id rows ≡ Some (map (λ f. f.now) files)
+pub record AreFiles (rows : List Row) (id : Text) (files : List (Bor Text)) : Type 0 where
+  pub stand : all_of id rows ≡ Some (map (λ f. f.now) files)
+  pub named : IsTrue (list_all is_named (map (λ f. f.now) files))
 
--- it names this file, or stands nowhere where there is none
-abbrev pub IsFileIfAny : List Row → (id : Text) → Option (Bor Text) → Type 0
-IsFileIfAny rows id file = first_of id rows ≡ option_map (λ f. f.now) file
-
--- the number that the text has, or none where there is no text
-abbrev pub IsNumberOf : Option Text → Option ℕ → Type 0
-IsNumberOf None None = Unit {0}
-IsNumberOf None (Some n) = ⊥
-IsNumberOf (Some text) None = ⊥
-IsNumberOf (Some text) (Some n) = IsNumber text n
-
--- the number that the option gives, or none where it stands nowhere
-abbrev pub IsNumberIfAny : List Row → (id : Text) → Option ℕ → Type 0
-IsNumberIfAny rows id found = IsNumberOf (one_of id rows) found
-
-abbrev pub answer_word : (mark : Bool) → Text
-answer_word mark = if mark then codes "yes" else codes "no"
+-- the numbers of at most so many states with the answer of this name
+abbrev pub states_by : (word : Text) → (most : Option ℕ) → Option ReportForm
+states_by word most =
+    if bytes_eq word (codes "yes") then Some (States true most)
+    else (if bytes_eq word (codes "no") then Some (States false most) else None)
 
 -- the form that a report has where just these options stand, if there is one
-abbrev pub form_by : (quiet summary : Bool) → (answer : Option Bool) → (most : Option ℕ) → Option ReportForm
+abbrev pub form_by : (quiet summary : Bool) → (states : Option Text) → (most : Option ℕ) → Option ReportForm
 form_by false false None None = Some Whole
 form_by false true None None = Some Summary
-form_by false false (Some mark) most = Some (States mark most)
+form_by false false (Some word) most = states_by word most
 form_by true false None None = Some Nothing
 form_by _ _ _ _ = None
 
--- the form of the report that is asked for
+-- the form of the report that is asked for: where numbers of states are, of one at least
 pub record IsReportForm (rows : List Row) (form : ReportForm) : Type 0 where
-  pub answer : Option Bool
-  pub most : Option ℕ
-  pub states : first_of (codes "states") rows ≡ option_map answer_word answer
-  pub limit : IsNumberIfAny rows (codes "limit") most
-  pub by : form_by (stands rows (codes "quiet")) (stands rows (codes "summary")) answer most ≡ Some form
+  pub limit : IsWithin rows (codes "limit") 1 4294967295
+  pub by : form_by (stands rows (codes "quiet")) (stands rows (codes "summary")) (first_of (codes "states") rows) (number_in rows (codes "limit")) ≡ Some form
 
 -- the options that are given, and the defaults of the others
 pub record AreOptions (rows : List Row) (options : Options) : Type 0 where
   pub priorities : options.priorities ≡ priorities_in rows
-  pub workers : IsNumberIn rows (codes "workers") 1 options.workers
-  pub shards : IsNumberIn rows (codes "shards") 16 options.shards
+  pub workers : IsNumber rows (codes "workers") 1 64 1 options.workers
+  pub shards : IsNumber rows (codes "shards") 1 256 16 options.shards
   pub board : options.board ≡ board_in rows
 
 pub record IsCheck (rows : List Row) (check : CheckRequest) : Type 0 where
@@ -121,7 +121,7 @@ pub record IsWhy (rows : List Row) (why : WhyRequest) : Type 0 where
   pub system : IsFile rows (codes "SYSTEM") why.system
   pub formula : IsFile rows (codes "FORMULA") why.formula
   pub options : AreOptions rows why.options
-  pub limit : IsNumberIn rows (codes "limit") 200 why.limit
+  pub limit : IsNumber rows (codes "limit") 0 4294967295 200 why.limit
   pub strict : why.strict ≡ stands rows (codes "strict")
 
 pub record IsTableRequest (rows : List Row) (table : TableRequest) : Type 0 where
@@ -162,21 +162,42 @@ pub record AsksReplay (rows : List Row) (replay : ReplayRequest) : Type 0 where
   pub system : IsFile rows (codes "SYSTEM") replay.system
   pub formula : IsFile rows (codes "FORMULA") replay.formula
   pub schedule : IsFile rows (codes "SCHEDULE") replay.schedule
-  pub workers : IsNumberIn rows (codes "workers") 2 replay.workers
+  pub workers : IsNumber rows (codes "workers") 1 64 2 replay.workers
+
+-- no file is written
+abbrev pub IsReportAlone : Outputs → Type 0
+IsReportAlone outputs = (outputs.game ≡ None) × (outputs.evidence ≡ None) × (outputs.witness ≡ None)
+
+abbrev pub word_of : Command → Text
+word_of (Check check outputs) = codes "check"
+word_of (Why why) = codes "why"
+word_of (Table table) = codes "table"
+word_of (Labels labels) = codes "labels"
+word_of (Normal form) = codes "normal"
+word_of (Solve solve) = codes "solve"
+word_of (Verify verify) = codes "verify"
+word_of (Replay replay) = codes "replay"
+word_of (Explain code) = codes "explain"
+word_of (Help topic) = codes "help"
+word_of Version = codes "version"
+
+-- the arguments of the command are these; without a game no file is written
+abbrev pub HasArguments : List Row → Command → Type 0
+HasArguments rows (Check check outputs) = IsCheck rows check × AreOutputs rows outputs × (IsTrue check.plain → IsReportAlone outputs)
+HasArguments rows (Why why) = IsWhy rows why
+HasArguments rows (Table table) = IsTableRequest rows table
+HasArguments rows (Labels labels) = AsksLabels rows labels
+HasArguments rows (Normal form) = IsNormal rows form
+HasArguments rows (Solve solve) = IsSolve rows solve
+HasArguments rows (Verify verify) = IsVerify rows verify
+HasArguments rows (Replay replay) = AsksReplay rows replay
+HasArguments rows (Explain code) = IsFile rows (codes "CODE") code
+HasArguments rows (Help topic) = IsFileIfAny rows (codes "COMMAND") topic
+HasArguments rows Version = Unit {0}
 
 -- the command of this name, as its arguments ask
 abbrev pub IsCommand : (name : Text) → List Row → Command → Type 0
-IsCommand name rows (Check check outputs) = (name ≡ codes "check") × IsCheck rows check × AreOutputs rows outputs
-IsCommand name rows (Why why) = (name ≡ codes "why") × IsWhy rows why
-IsCommand name rows (Table table) = (name ≡ codes "table") × IsTableRequest rows table
-IsCommand name rows (Labels labels) = (name ≡ codes "labels") × AsksLabels rows labels
-IsCommand name rows (Normal form) = (name ≡ codes "normal") × IsNormal rows form
-IsCommand name rows (Solve solve) = (name ≡ codes "solve") × IsSolve rows solve
-IsCommand name rows (Verify verify) = (name ≡ codes "verify") × IsVerify rows verify
-IsCommand name rows (Replay replay) = (name ≡ codes "replay") × AsksReplay rows replay
-IsCommand name rows (Explain code) = (name ≡ codes "explain") × IsFile rows (codes "CODE") code
-IsCommand name rows (Help topic) = (name ≡ codes "help") × IsFileIfAny rows (codes "COMMAND") topic
-IsCommand name rows Version = name ≡ codes "version"
+IsCommand name rows command = (name ≡ word_of command) × HasArguments rows command
 
 -- the command that was read, of which there is one
 abbrev pub IsRead : Option (Text × List Row) → Command → Type 0

@@ -1,7 +1,6 @@
 pub mod CommandLine
 pub mod Refusals
 pub mod Example
-pub mod Command
 pub mod Files
 pub mod Named
 pub mod Names

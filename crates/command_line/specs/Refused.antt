@@ -1,14 +1,14 @@
 -- Why a command line is refused.
+use Rattle.std.specs.Prelude.{MatchResult, Result}
 use Rattle.requests.specs.declared.error.MuError.{MuError}
 use Rattle.requests.specs.declared.error.MuError.TheVariants as error
 
--- What a command line may be refused for: its words, with the text that says what is wrong with them, or a lack of memory.
-abbrev pub IsLineError : MuError → Type 0
-IsLineError (error.Arguments e) = Unit {0}
-IsLineError error.Memory = Unit {0}
-IsLineError e = ⊥
+-- What a command line may be refused for: its words, with the text that says what is wrong with them, where this holds; or a lack of memory.
+abbrev pub IsLineError : Type 0 → MuError → Type 0
+IsLineError P (error.Arguments e) = P
+IsLineError P error.Memory = Unit {0}
+IsLineError P e = ⊥
 
--- where it is the words that are refused, and not memory that is wanting, this holds
-abbrev pub IfArguments : MuError → Type 0 → Type 0
-IfArguments (error.Arguments e) P = P
-IfArguments e P = Unit {0}
+-- A value that is so is found, or the words are refused, where none is so.
+abbrev pub Finds : {T : Type 0} → (IsSo : T → Type 0) → Result T MuError → Type 0
+Finds {T} IsSo result = MatchResult result IsSo (IsLineError ((value : T) → IsSo value → ⊥))

@@ -1,6 +1,6 @@
 // The texts that the program tells of itself.
 
-ghost use Rattle.std.specs.Prelude.{IfErr};
+ghost use Rattle.std.specs.Prelude.{IfErr, ⊤};
 ghost use Rattle.command_line.specs.Refused.{IsLineError};
 
 use crate::codes::code_entry;
@@ -17,7 +17,7 @@ use std::alloc::{AllocError, Global};
 /// # Errors
 /// U1 where there is no such command, U4.
 pub fn help_text(alloc: Global, command: Option<&str>) -> Result<String, MuError>
-    ensures { IfErr result IsLineError }
+    ensures { IfErr result (IsLineError ⊤) }
 {
     match command {
         Some(name) => help_for(alloc, &["mucheck", name, "--help"]),
@@ -27,7 +27,7 @@ pub fn help_text(alloc: Global, command: Option<&str>) -> Result<String, MuError
 
 /// What the program answers to these words, which ask for help.
 fn help_for<'a>(alloc: Global, words: &'a [&'a str]) -> Result<String, MuError>
-    ensures { IfErr result IsLineError }
+    ensures { IfErr result (IsLineError ⊤) }
 {
     let Ok(parser) = parser(alloc, VERSION) else {
         return Err(MuError::Memory);
@@ -40,7 +40,7 @@ fn help_for<'a>(alloc: Global, words: &'a [&'a str]) -> Result<String, MuError>
 
 /// The help that `clap` answers in place of matches.
 fn shown(alloc: Global, error: &ClapError) -> Result<String, MuError>
-    ensures { IfErr result IsLineError }
+    ensures { IfErr result (IsLineError ⊤) }
 {
     match error.kind() {
         ErrorKind::DisplayHelp => text(error.to_string(alloc)),
@@ -53,7 +53,7 @@ fn shown(alloc: Global, error: &ClapError) -> Result<String, MuError>
 /// # Errors
 /// U4.
 pub fn version_text(alloc: Global) -> Result<String, MuError>
-    ensures { IfErr result IsLineError }
+    ensures { IfErr result (IsLineError ⊤) }
 {
     text(format!(in alloc; "mucheck {VERSION}\n"))
 }
@@ -63,7 +63,7 @@ pub fn version_text(alloc: Global) -> Result<String, MuError>
 /// # Errors
 /// U1 where there is no such code, U4.
 pub fn explanation(alloc: Global, code: &str) -> Result<String, MuError>
-    ensures { IfErr result IsLineError }
+    ensures { IfErr result (IsLineError ⊤) }
 {
     let Ok(code) = code.to_ascii_uppercase(alloc) else {
         return Err(MuError::Memory);
@@ -78,7 +78,7 @@ pub fn explanation(alloc: Global, code: &str) -> Result<String, MuError>
 }
 
 fn text(made: Result<String, AllocError>) -> Result<String, MuError>
-    ensures { IfErr result IsLineError }
+    ensures { IfErr result (IsLineError ⊤) }
 {
     Ok(made?)
 }

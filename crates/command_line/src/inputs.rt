@@ -1,27 +1,16 @@
 // The files that a command reads, of which one may be standard input.
 
-ghost use Rattle.std.specs.Prelude.{◌≡◌, IfErr, IfOk, count_by};
-ghost use Rattle.command_line.specs.Refused.{IsLineError};
+ghost use Rattle.std.specs.Prelude.{◌≡◌, ◌↔◌, IsTrue, count_by};
 ghost use Rattle.command_line.specs.Files.{ReadsItOnce, is_input, is_standard_input};
 
 use crate::request::Command;
-use requests::error::{ArgumentError, MuError};
 
-/// Refuses a command that would read standard input twice.
-///
-/// # Errors
-/// U1.
-pub fn read_once(command: &Command<'_>) -> Result<(), MuError>
-    ensures once { IfOk result (λ _. ReadsItOnce command.now) }
-    ensures refused { IfErr result IsLineError }
-    ensures only { IfErr result (λ _. ReadsItOnce command.now → ⊥) }
+/// Whether a command reads standard input once at most.
+pub fn reads_once(command: &Command<'_>) -> bool
+    ensures { IsTrue result ↔ ReadsItOnce command.now }
 {
     let inputs = inputs_among(&command.files());
-    if inputs <= 1 && standard_inputs(command.formulas()) <= 1 - inputs {
-        Ok(())
-    } else {
-        Err(MuError::Arguments(ArgumentError::TwoInputs))
-    }
+    inputs <= 1 && standard_inputs(command.formulas()) <= 1 - inputs
 }
 
 /// How many of these files are standard input.

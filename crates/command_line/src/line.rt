@@ -1,49 +1,42 @@
 // The command line.
 
-ghost use Rattle.std.specs.Prelude.{◌≡◌, ◌<◌, ◌≤◌, ◌≢◌, ◌↔◌, [], ℕ, IfErr, IfOk, IfSome, IsTrue, Option, Some, codes, false, map, option_map};
+ghost use Rattle.std.specs.Prelude.{◌≡◌, ◌≤◌, ⊤, IfErr, IfOk, IfSome, map, option_map};
 ghost use Rattle.std.specs.List.{list_all};
 ghost use Rattle.std.specs.String.{string_bytes};
 ghost use Rattle.clap.specs.Words.{first_of, found_of, kind_of, rows_of, subcommand_rows_of};
-ghost use Rattle.command_line.specs.Command.{AreAllNamed, AreNamed, AreWithin, IsComplete, IsForSome, IsPlainAlone, is_named};
 ghost use Rattle.command_line.specs.CommandLine.{
   AreFiles,
   AreMatchesOf,
   AreOptions,
   AreOutputs,
+  AsksReplay,
+  HasArguments,
   IsAskedFor,
   IsCommand,
   IsFile,
   IsFileIfAny,
-  IsReportForm,
-  IsNumberIfAny,
-  IsNumberIn,
+  IsNumber,
   IsRead,
-  answer_word,
+  IsReportForm,
+  IsSolve,
+  IsTableRequest,
+  IsVerify,
+  IsWhy,
+  IsWithin,
   board_in,
   form_by,
   has_value,
+  is_named,
+  number_in,
   priorities_in,
+  states_by,
 };
 ghost use Rattle.command_line.specs.Files.{ReadsItOnce};
 ghost use Rattle.command_line.specs.Names.{KeepsFiles};
-ghost use Rattle.command_line.specs.Refused.{IfArguments, IsLineError};
-ghost use Rattle.command_line.specs.Refusals.{
-  AreUnnamed,
-  AsksForNone,
-  AsksNoForm,
-  HasNoNumber,
-  HasNoNumberIfAny,
-  HasNoOptions,
-  HasNoOutputs,
-  IsNoAnswer,
-  IsRefusable,
-  IsUnnamed,
-  IsUnnamedIfAny,
-  IsUntaken,
-  ReadsNone,
-};
+ghost use Rattle.command_line.specs.Refused.{Finds, IsLineError};
+ghost use Rattle.command_line.specs.Refusals.{IsRefusable, IsUntaken};
 
-use crate::inputs::read_once;
+use crate::inputs::reads_once;
 use crate::names::keep_files;
 use crate::request::{Command, Labels, Outputs};
 use crate::version::VERSION;
@@ -68,25 +61,23 @@ use std::alloc::Global;
 /// help or version that was asked for, and only there; U4.
 pub fn command<'a>(alloc: Global, words: &'a [String]) -> Result<Command<'a>, MuError>
     ensures asked { IfOk result (IsAskedFor (map (λ word. string_bytes word) words.now)) }
-    ensures complete { IfOk result IsComplete }
-    ensures plain { IfOk result IsPlainAlone }
     ensures kept { IfOk result KeepsFiles }
     ensures once { IfOk result ReadsItOnce }
-
-    ensures refused { IfErr result IsLineError }
-    ensures only { IfErr result (λ e. IfArguments e (IsRefusable (map (λ word. string_bytes word) words.now))) }
+    ensures refused { IfErr result (IsLineError (IsRefusable (map (λ word. string_bytes word) words.now))) }
 {
     let matches = matches_of(alloc, words)?;
     let command = request_of(alloc, &matches)?;
     keep_files(alloc, &command)?;
-    read_once(&command)?;
-    Ok(command)
+    if reads_once(&command) {
+        Ok(command)
+    } else {
+        Err(MuError::Arguments(ArgumentError::TwoInputs))
+    }
 }
 
 fn matches_of<'a>(alloc: Global, words: &'a [String]) -> Result<ArgMatches<'a>, MuError>
     ensures found { IfOk result (AreMatchesOf (map (λ word. string_bytes word) words.now)) }
-    ensures refused { IfErr result IsLineError }
-    ensures only { IfErr result (λ e. IfArguments e (IsUntaken (map (λ word. string_bytes word) words.now))) }
+    ensures refused { IfErr result (IsLineError (IsUntaken (map (λ word. string_bytes word) words.now))) }
 {
     let Ok(parser) = parser(alloc, VERSION) else {
         return Err(MuError::Memory);
@@ -99,7 +90,7 @@ fn matches_of<'a>(alloc: Global, words: &'a [String]) -> Result<ArgMatches<'a>, 
 
 /// The refusal for what `clap` answers in place of matches; out of memory is the engine's.
 pub(crate) fn refusal(alloc: Global, error: &ClapError) -> MuError
-    ensures line { IsLineError result }
+    ensures line { IsLineError ⊤ result }
     ensures memory { kind_of error.now ≡ ErrorKind.OutOfMemory → result ≡ MuError.Memory }
 {
     match error.kind() {
@@ -113,72 +104,50 @@ pub(crate) fn refusal(alloc: Global, error: &ClapError) -> MuError
 
 /// The command that the matches ask for.
 fn request_of<'a>(alloc: Global, matches: &ArgMatches<'a>) -> Result<Command<'a>, MuError>
-    ensures asked { IfOk result (IsRead (subcommand_rows_of matches.now)) }
-    ensures complete { IfOk result IsComplete }
-    ensures plain { IfOk result IsPlainAlone }
-
-    ensures refused { IfErr result IsLineError }
-    ensures only { IfErr result (λ e. IfArguments e (ReadsNone (subcommand_rows_of matches.now))) }
+    ensures { Finds (IsRead (subcommand_rows_of matches.now)) result }
 {
-    let Some((name, found)) = matches.subcommand() else {
-        return Err(MuError::Arguments(ArgumentError::NoCommand));
-    };
-    if name == "table" {
-        return table_of(alloc, found);
-    }
-    other_of(name, found).map_err(MuError::Arguments)
-}
-
-/// The command of this name, which isn't `table`.
-fn other_of<'a>(name: &str, found: &ArgMatches<'a>) -> Result<Command<'a>, ArgumentError>
-    ensures asked { IfOk result (IsCommand name.now (rows_of (found_of found.now))) }
-    ensures complete { IfOk result IsComplete }
-    ensures plain { IfOk result IsPlainAlone }
-    ensures only { IfErr result (λ _. name.now ≢ codes "table" → AsksForNone name.now (rows_of (found_of found.now))) }
-{
-    match name {
-        "check" => check_of(found),
-        "why" => why_of(found),
-        "labels" => labels_of(found),
-        "normal" => normal_of(found),
-        "solve" => solve_of(found),
-        "verify" => verify_of(found),
-        "replay" => replay_of(found),
-        "explain" => explain_of(found),
-        "help" => help_of(found),
-        "version" => Ok(Command::Version),
-        _ => Err(ArgumentError::NoCommand),
+    match matches.subcommand() {
+        Some((name, found)) => named_request(alloc, name, found),
+        None => Err(MuError::Arguments(ArgumentError::NoCommand)),
     }
 }
 
-/// The table that the matches of its command ask for.
-fn table_of<'a>(alloc: Global, matches: &ArgMatches<'a>) -> Result<Command<'a>, MuError>
-    ensures asked { IfOk result (IsCommand (codes "table") (rows_of (found_of matches.now))) }
-    ensures complete { IfOk result IsComplete }
-    ensures plain { IfOk result IsPlainAlone }
-
-    ensures refused { IfErr result IsLineError }
-    ensures only { IfErr result (λ e. IfArguments e (AsksForNone (codes "table") (rows_of (found_of matches.now)))) }
+/// The command of this name.
+fn named_request<'a>(
+    alloc: Global,
+    name: &str,
+    found: &ArgMatches<'a>,
+) -> Result<Command<'a>, MuError>
+    ensures { Finds (IsCommand name.now (rows_of (found_of found.now))) result }
 {
-    let system = file_name(matches, SYSTEM).map_err(MuError::Arguments)?;
-    let options = options(matches).map_err(MuError::Arguments)?;
-    let formulas = file_names(alloc, matches, FORMULA)?;
-    Ok(Command::Table(Table {
-        system,
-        formulas,
-        options,
-        plain: has_value(matches, PLAIN, "true"),
-        strict: has_value(matches, STRICT, "true"),
-        stats: has_value(matches, STATS, "true"),
-    }))
+    Ok(match name {
+        "check" => {
+            let (check, outputs) = check_of(found)?;
+            Command::Check(check, outputs)
+        }
+        "why" => Command::Why(why_of(found)?),
+        "table" => Command::Table(table_of(alloc, found)?),
+        "labels" => Command::Labels(Labels {
+            system: file_name(found, SYSTEM)?,
+            formula: optional_name(found, FORMULA)?,
+        }),
+        "normal" => Command::Normal(Normalize {
+            formula: file_name(found, FORMULA)?,
+            priorities: rule(found),
+        }),
+        "solve" => Command::Solve(solve_of(found)?),
+        "verify" => Command::Verify(verify_of(found)?),
+        "replay" => Command::Replay(replay_of(found)?),
+        "explain" => Command::Explain(file_name(found, CODE)?),
+        "help" => Command::Help(optional_name(found, COMMAND)?),
+        "version" => Command::Version,
+        _ => return Err(MuError::Arguments(ArgumentError::NoCommand)),
+    })
 }
 
-/// The check that the matches of its command ask for.
-fn check_of<'a>(matches: &ArgMatches<'a>) -> Result<Command<'a>, ArgumentError>
-    ensures asked { IfOk result (IsCommand (codes "check") (rows_of (found_of matches.now))) }
-    ensures complete { IfOk result IsComplete }
-    ensures plain { IfOk result IsPlainAlone }
-    ensures only { IfErr result (λ _. AsksForNone (codes "check") (rows_of (found_of matches.now))) }
+/// A check, and where its texts go.
+fn check_of<'a>(matches: &ArgMatches<'a>) -> Result<(Check<'a>, Outputs<'a>), MuError>
+    ensures { Finds (λ asked. HasArguments (rows_of (found_of matches.now)) (Command.Check asked.0 asked.1)) result }
 {
     let system = file_name(matches, SYSTEM)?;
     let formula = file_name(matches, FORMULA)?;
@@ -191,17 +160,14 @@ fn check_of<'a>(matches: &ArgMatches<'a>) -> Result<Command<'a>, ArgumentError>
     };
     let outputs = outputs(matches)?;
     if check.plain && !outputs.is_report_alone() {
-        return Err(ArgumentError::PlainOutput);
+        return Err(MuError::Arguments(ArgumentError::PlainOutput));
     }
-    Ok(Command::Check(check, outputs))
+    Ok((check, outputs))
 }
 
 /// Where a check's texts go.
-fn outputs<'a>(matches: &ArgMatches<'a>) -> Result<Outputs<'a>, ArgumentError>
-    ensures asked { IfOk result (AreOutputs (rows_of (found_of matches.now))) }
-    ensures named { IfOk result AreNamed }
-    ensures some { IfOk result (λ outputs. IsForSome outputs.report) }
-    ensures only { IfErr result (λ _. HasNoOutputs (rows_of (found_of matches.now))) }
+fn outputs<'a>(matches: &ArgMatches<'a>) -> Result<Outputs<'a>, MuError>
+    ensures { Finds (AreOutputs (rows_of (found_of matches.now))) result }
 {
     Ok(Outputs {
         game: optional_name(matches, GAME_FILE)?,
@@ -213,18 +179,15 @@ fn outputs<'a>(matches: &ArgMatches<'a>) -> Result<Outputs<'a>, ArgumentError>
 }
 
 /// The form of the report that is asked for.
-fn report_form(matches: &ArgMatches<'_>) -> Result<ReportForm, ArgumentError>
-    ensures asked { IfOk result (IsReportForm (rows_of (found_of matches.now))) }
-    ensures some { IfOk result IsForSome }
-    ensures only { IfErr result (λ _. AsksNoForm (rows_of (found_of matches.now))) }
+fn report_form(matches: &ArgMatches<'_>) -> Result<ReportForm, MuError>
+    ensures { Finds (IsReportForm (rows_of (found_of matches.now))) result }
 {
     let quiet = has_value(matches, QUIET, "true");
     let summary = has_value(matches, SUMMARY, "true");
-    let answer = answer(matches)?;
-    let most = optional_number(matches, LIMIT)?;
-    match form_by(quiet, summary, answer, most) {
+    let most = optional_number(matches, LIMIT, 1, u32::MAX)?;
+    match form_by(quiet, summary, value(matches, STATES), most) {
         Some(form) => Ok(form),
-        None => Err(ArgumentError::ReportForms),
+        None => Err(MuError::Arguments(ArgumentError::ReportForms)),
     }
 }
 
@@ -232,180 +195,103 @@ fn report_form(matches: &ArgMatches<'_>) -> Result<ReportForm, ArgumentError>
 fn form_by(
     quiet: bool,
     summary: bool,
-    answer: Option<bool>,
+    states: Option<&str>,
     most: Option<u32>,
 ) -> Option<ReportForm>
-    ensures form { result ≡ form_by quiet summary answer most }
-    ensures some { IfSome most (λ n. 1 ≤ n) → IfSome result IsForSome }
+    ensures { result ≡ form_by quiet summary (option_map (λ word. word.now) states.entry) most }
 {
-    match (quiet, summary, answer, most) {
+    match (quiet, summary, states, most) {
         (false, false, None, None) => Some(ReportForm::Whole),
         (false, true, None, None) => Some(ReportForm::Summary),
-        (false, false, Some(mark), most) => Some(ReportForm::States { mark, most }),
+        (false, false, Some(word), most) => states_by(word, most),
         (true, false, None, None) => Some(ReportForm::Nothing),
         _ => None,
     }
 }
 
-/// The answer of the states whose numbers are asked for, if they are.
-fn answer(matches: &ArgMatches<'_>) -> Result<Option<bool>, ArgumentError>
-    ensures asked { IfOk result (λ found. first_of (codes "states") (rows_of (found_of matches.now)) ≡ option_map answer_word found) }
-    ensures only { IfErr result (λ _. IsNoAnswer (first_of (codes "states") (rows_of (found_of matches.now)))) }
+/// The numbers of the states with the answer of this name, which is the table's.
+fn states_by(word: &str, most: Option<u32>) -> Option<ReportForm>
+    ensures { result ≡ states_by word.now most }
 {
-    match matches.get_str(STATES) {
-        None => Ok(None),
-        Some(word) => answer_named(word),
-    }
-}
-
-/// The answer of this name. The table has no other name.
-fn answer_named(name: &str) -> Result<Option<bool>, ArgumentError>
-    ensures asked { IfOk result (λ found. Some name.now ≡ option_map answer_word found) }
-    ensures only { IfErr result (λ _. IsNoAnswer (Some name.now)) }
-{
-    if is_word(name, "yes") {
-        Ok(Some(true))
-    } else if is_word(name, "no") {
-        Ok(Some(false))
+    if word == "yes" {
+        Some(ReportForm::States { mark: true, most })
+    } else if word == "no" {
+        Some(ReportForm::States { mark: false, most })
     } else {
-        Err(ArgumentError::ReportForms)
+        None
     }
-}
-
-/// Whether two words are the same.
-fn is_word(name: &str, word: &str) -> bool
-    ensures { IsTrue result ↔ (name.now ≡ word.now) }
-{
-    name == word
 }
 
 /// What is to be told of why an answer is so.
-fn why_of<'a>(matches: &ArgMatches<'a>) -> Result<Command<'a>, ArgumentError>
-    ensures asked { IfOk result (IsCommand (codes "why") (rows_of (found_of matches.now))) }
-    ensures complete { IfOk result IsComplete }
-    ensures plain { IfOk result IsPlainAlone }
-    ensures only { IfErr result (λ _. AsksForNone (codes "why") (rows_of (found_of matches.now))) }
+fn why_of<'a>(matches: &ArgMatches<'a>) -> Result<Why<'a>, MuError>
+    ensures { Finds (IsWhy (rows_of (found_of matches.now))) result }
 {
-    Ok(Command::Why(Why {
+    Ok(Why {
         system: file_name(matches, SYSTEM)?,
         formula: file_name(matches, FORMULA)?,
         options: options(matches)?,
-        limit: lines(matches)?,
+        limit: number(matches, LIMIT, 0, u32::MAX, 200)?,
         strict: has_value(matches, STRICT, "true"),
-    }))
+    })
 }
 
-/// The labels that the matches of its command ask for.
-fn labels_of<'a>(matches: &ArgMatches<'a>) -> Result<Command<'a>, ArgumentError>
-    ensures asked { IfOk result (IsCommand (codes "labels") (rows_of (found_of matches.now))) }
-    ensures complete { IfOk result IsComplete }
-    ensures plain { IfOk result IsPlainAlone }
-    ensures only { IfErr result (λ _. AsksForNone (codes "labels") (rows_of (found_of matches.now))) }
+/// The table that the matches of its command ask for.
+fn table_of<'a>(alloc: Global, matches: &ArgMatches<'a>) -> Result<Table<'a>, MuError>
+    ensures { Finds (IsTableRequest (rows_of (found_of matches.now))) result }
 {
-    Ok(Command::Labels(Labels {
+    Ok(Table {
         system: file_name(matches, SYSTEM)?,
-        formula: optional_name(matches, FORMULA)?,
-    }))
-}
-
-/// How many lines of a play are told at most.
-fn lines(matches: &ArgMatches<'_>) -> Result<u32, ArgumentError>
-    ensures asked { IfOk result (IsNumberIn (rows_of (found_of matches.now)) (codes "limit") 200) }
-    ensures only { IfErr result (λ _. (n : ℕ) → IsNumberIn (rows_of (found_of matches.now)) (codes "limit") 200 n → ⊥) }
-{
-    match written_number(matches, LIMIT)? {
-        None => Ok(200),
-        Some(n) => Ok(n),
-    }
-}
-
-/// The normal form that the matches of its command ask for.
-fn normal_of<'a>(matches: &ArgMatches<'a>) -> Result<Command<'a>, ArgumentError>
-    ensures asked { IfOk result (IsCommand (codes "normal") (rows_of (found_of matches.now))) }
-    ensures complete { IfOk result IsComplete }
-    ensures plain { IfOk result IsPlainAlone }
-    ensures only { IfErr result (λ _. AsksForNone (codes "normal") (rows_of (found_of matches.now))) }
-{
-    Ok(Command::Normal(Normalize {
-        formula: file_name(matches, FORMULA)?,
-        priorities: rule(matches),
-    }))
+        options: options(matches)?,
+        formulas: file_names(alloc, matches, FORMULA)?,
+        plain: has_value(matches, PLAIN, "true"),
+        strict: has_value(matches, STRICT, "true"),
+        stats: has_value(matches, STATS, "true"),
+    })
 }
 
 /// The game that the matches of its command ask to be solved.
-fn solve_of<'a>(matches: &ArgMatches<'a>) -> Result<Command<'a>, ArgumentError>
-    ensures asked { IfOk result (IsCommand (codes "solve") (rows_of (found_of matches.now))) }
-    ensures complete { IfOk result IsComplete }
-    ensures plain { IfOk result IsPlainAlone }
-    ensures only { IfErr result (λ _. AsksForNone (codes "solve") (rows_of (found_of matches.now))) }
+fn solve_of<'a>(matches: &ArgMatches<'a>) -> Result<Solve<'a>, MuError>
+    ensures { Finds (IsSolve (rows_of (found_of matches.now))) result }
 {
-    Ok(Command::Solve(Solve {
+    Ok(Solve {
         game: file_name(matches, GAME)?,
         options: options(matches)?,
         evidence: optional_name(matches, EVIDENCE_FILES)?,
         stats: has_value(matches, STATS, "true"),
-    }))
+    })
 }
 
 /// The evidence that the matches of its command ask to be checked.
-fn verify_of<'a>(matches: &ArgMatches<'a>) -> Result<Command<'a>, ArgumentError>
-    ensures asked { IfOk result (IsCommand (codes "verify") (rows_of (found_of matches.now))) }
-    ensures complete { IfOk result IsComplete }
-    ensures plain { IfOk result IsPlainAlone }
-    ensures only { IfErr result (λ _. AsksForNone (codes "verify") (rows_of (found_of matches.now))) }
+fn verify_of<'a>(matches: &ArgMatches<'a>) -> Result<Verify<'a>, MuError>
+    ensures { Finds (IsVerify (rows_of (found_of matches.now))) result }
 {
-    Ok(Command::Verify(Verify {
+    Ok(Verify {
         game: file_name(matches, GAME)?,
         evidence: file_name(matches, EVIDENCE)?,
         other: optional_name(matches, OTHER)?,
-    }))
+    })
 }
 
 /// The replay that the matches of its command ask for.
-fn replay_of<'a>(matches: &ArgMatches<'a>) -> Result<Command<'a>, ArgumentError>
-    ensures asked { IfOk result (IsCommand (codes "replay") (rows_of (found_of matches.now))) }
-    ensures complete { IfOk result IsComplete }
-    ensures plain { IfOk result IsPlainAlone }
-    ensures only { IfErr result (λ _. AsksForNone (codes "replay") (rows_of (found_of matches.now))) }
+fn replay_of<'a>(matches: &ArgMatches<'a>) -> Result<Replay<'a>, MuError>
+    ensures { Finds (AsksReplay (rows_of (found_of matches.now))) result }
 {
-    Ok(Command::Replay(Replay {
+    Ok(Replay {
         system: file_name(matches, SYSTEM)?,
         formula: file_name(matches, FORMULA)?,
         schedule: file_name(matches, SCHEDULE)?,
-        workers: number(matches, WORKERS, 2, 64)?,
-    }))
-}
-
-/// The code that is to be explained.
-fn explain_of<'a>(matches: &ArgMatches<'a>) -> Result<Command<'a>, ArgumentError>
-    ensures asked { IfOk result (IsCommand (codes "explain") (rows_of (found_of matches.now))) }
-    ensures complete { IfOk result IsComplete }
-    ensures plain { IfOk result IsPlainAlone }
-    ensures only { IfErr result (λ _. AsksForNone (codes "explain") (rows_of (found_of matches.now))) }
-{
-    Ok(Command::Explain(file_name(matches, CODE)?))
-}
-
-/// The command whose help is asked for.
-fn help_of<'a>(matches: &ArgMatches<'a>) -> Result<Command<'a>, ArgumentError>
-    ensures asked { IfOk result (IsCommand (codes "help") (rows_of (found_of matches.now))) }
-    ensures complete { IfOk result IsComplete }
-    ensures plain { IfOk result IsPlainAlone }
-    ensures only { IfErr result (λ _. AsksForNone (codes "help") (rows_of (found_of matches.now))) }
-{
-    Ok(Command::Help(optional_name(matches, COMMAND)?))
+        workers: number(matches, WORKERS, 1, 64, 2)?,
+    })
 }
 
 /// The options of a command that makes a game or solves one.
-fn options(matches: &ArgMatches<'_>) -> Result<Options, ArgumentError>
-    ensures asked { IfOk result (AreOptions (rows_of (found_of matches.now))) }
-    ensures within { IfOk result AreWithin }
-    ensures only { IfErr result (λ _. HasNoOptions (rows_of (found_of matches.now))) }
+fn options(matches: &ArgMatches<'_>) -> Result<Options, MuError>
+    ensures { Finds (AreOptions (rows_of (found_of matches.now))) result }
 {
     Ok(Options {
         priorities: rule(matches),
-        workers: number(matches, WORKERS, 1, 64)?,
-        shards: number(matches, SHARDS, 16, 256)?,
+        workers: number(matches, WORKERS, 1, 64, 1)?,
+        shards: number(matches, SHARDS, 1, 256, 16)?,
         board: board(matches),
     })
 }
@@ -434,37 +320,29 @@ fn board(matches: &ArgMatches<'_>) -> BoardKind
 }
 
 /// Whether an argument has this value. An option without a value has the value `true` where it stands.
-fn has_value(matches: &ArgMatches<'_>, id: &str, value: &str) -> bool
-    ensures { result ≡ has_value (rows_of (found_of matches.now)) id.now value.now }
+fn has_value(matches: &ArgMatches<'_>, id: &str, word: &str) -> bool
+    ensures { result ≡ has_value (rows_of (found_of matches.now)) id.now word.now }
 {
-    match matches.get_str(id) {
-        Some(found) => found == value,
+    match value(matches, id) {
+        Some(found) => found == word,
         None => false,
     }
 }
 
-/// The file that an argument names.
-fn file_name<'a>(matches: &ArgMatches<'a>, id: &str) -> Result<&'a str, ArgumentError>
-    ensures asked { IfOk result (IsFile (rows_of (found_of matches.now)) id.now) }
-    ensures named { IfOk result (λ name. name.now ≢ []) }
-    ensures only { IfErr result (λ _. IsUnnamed (rows_of (found_of matches.now)) id.now) }
+/// The first value of an argument, if it stands.
+fn value<'a>(matches: &ArgMatches<'a>, id: &str) -> Option<&'a str>
+    ensures { first_of id.now (rows_of (found_of matches.now)) ≡ option_map (λ text. text.now) result }
 {
-    match matches.get_str(id) {
-        Some(name) => named(name),
-        None => Err(ArgumentError::EmptyName),
-    }
+    matches.get_str(id)
 }
 
-/// This name, if it isn't empty.
-fn named(name: &str) -> Result<&str, ArgumentError>
-    ensures same { IfOk result (λ found. found.now ≡ name.now) }
-    ensures named { IfOk result (λ found. found.now ≢ []) }
-    ensures only { IfErr result (λ _. name.now ≡ []) }
+/// The file that an argument names.
+fn file_name<'a>(matches: &ArgMatches<'a>, id: &str) -> Result<&'a str, MuError>
+    ensures { Finds (IsFile (rows_of (found_of matches.now)) id.now) result }
 {
-    if name.is_empty() {
-        Err(ArgumentError::EmptyName)
-    } else {
-        Ok(name)
+    match optional_name(matches, id)? {
+        Some(name) => Ok(name),
+        None => Err(MuError::Arguments(ArgumentError::EmptyName)),
     }
 }
 
@@ -474,99 +352,79 @@ fn file_names<'a>(
     matches: &ArgMatches<'a>,
     id: &str,
 ) -> Result<Vec<&'a str>, MuError>
-    ensures asked { IfOk result (λ names. AreFiles (rows_of (found_of matches.now)) id.now names.items) }
-    ensures named { IfOk result (λ names. AreAllNamed names.items) }
-    ensures refused { IfErr result IsLineError }
-    ensures only { IfErr result (λ e. IfArguments e (AreUnnamed (rows_of (found_of matches.now)) id.now)) }
+    ensures { Finds (λ names. AreFiles (rows_of (found_of matches.now)) id.now names.items) result }
 {
     match matches.get_strs(id) {
-        Some(names) => all_named(alloc, names),
         None => Err(MuError::Arguments(ArgumentError::EmptyName)),
-    }
-}
-
-/// These names in a vector of their own, if none is empty.
-fn all_named<'a>(alloc: Global, names: &[&'a str]) -> Result<Vec<&'a str>, MuError>
-    ensures items { IfOk result (λ copy. copy.items ≡ names.now) }
-    ensures named { IfOk result (λ copy. AreAllNamed copy.items) }
-    ensures refused { IfErr result IsLineError }
-    ensures only { IfErr result (λ e. IfArguments e (list_all is_named names.now ≡ false)) }
-{
-    if !are_named(names) {
-        return Err(MuError::Arguments(ArgumentError::EmptyName));
-    }
-    match names.iter().copied().collect(alloc) {
-        Ok(copy) => Ok(copy),
-        Err(_) => Err(MuError::Memory),
+        Some(names) => {
+            if !are_named(names) {
+                return Err(MuError::Arguments(ArgumentError::EmptyName));
+            }
+            match names.iter().copied().collect(alloc) {
+                Ok(copy) => Ok(copy),
+                Err(_) => Err(MuError::Memory),
+            }
+        }
     }
 }
 
 /// Whether none of these is empty.
 fn are_named(names: &[&str]) -> bool
-    ensures { result ≡ list_all is_named names.now }
+    ensures { result ≡ list_all (λ name. is_named name.now) names.now }
 {
     names.iter().all(|name| !name.is_empty())
 }
 
 /// The file that an argument names, if it stands.
-fn optional_name<'a>(matches: &ArgMatches<'a>, id: &str) -> Result<Option<&'a str>, ArgumentError>
-    ensures asked { IfOk result (IsFileIfAny (rows_of (found_of matches.now)) id.now) }
-    ensures named { IfOk result (λ found. IfSome found (λ name. name.now ≢ [])) }
-    ensures only { IfErr result (λ _. IsUnnamedIfAny (rows_of (found_of matches.now)) id.now) }
+fn optional_name<'a>(matches: &ArgMatches<'a>, id: &str) -> Result<Option<&'a str>, MuError>
+    ensures { Finds (IsFileIfAny (rows_of (found_of matches.now)) id.now) result }
 {
-    match matches.get_str(id) {
+    match value(matches, id) {
         None => Ok(None),
-        Some(name) => Ok(Some(named(name)?)),
+        Some("") => Err(MuError::Arguments(ArgumentError::EmptyName)),
+        Some(name) => Ok(Some(name)),
     }
 }
 
-/// The number that an option gives, or else the default.
-fn number(matches: &ArgMatches<'_>, id: &str, default: u32, most: u32) -> Result<u32, ArgumentError>
-    requires some { 1 ≤ default }
+/// The number between these that an option gives, or else the default.
+fn number(
+    matches: &ArgMatches<'_>,
+    id: &str,
+    least: u32,
+    most: u32,
+    default: u32,
+) -> Result<u32, MuError>
+    requires some { least ≤ default }
     requires few { default ≤ most }
-
-    ensures asked { IfOk result (IsNumberIn (rows_of (found_of matches.now)) id.now default) }
-    ensures within { IfOk result (λ n. (1 ≤ n) × (n ≤ most)) }
-    ensures only { IfErr result (λ _. HasNoNumber (rows_of (found_of matches.now)) id.now default most) }
+    ensures read { Finds (IsNumber (rows_of (found_of matches.now)) id.now least most default) result }
+    ensures within { IfOk result (λ n. (least ≤ n) × (n ≤ most)) }
 {
-    match written_number(matches, id)? {
+    match optional_number(matches, id, least, most)? {
+        Some(n) => Ok(n),
         None => Ok(default),
-        Some(n) => within(n, most),
     }
 }
 
-/// This number, if it isn't 0 and not above the limit.
-fn within(n: u32, most: u32) -> Result<u32, ArgumentError>
-    ensures same { IfOk result (λ found. found ≡ n) }
-    ensures within { IfOk result (λ found. (1 ≤ found) × (found ≤ most)) }
-    ensures only { IfErr result (λ _. 1 ≤ n → most < n) }
-{
-    if n >= 1 && n <= most {
-        Ok(n)
-    } else {
-        Err(ArgumentError::OverLimit)
-    }
-}
-
-/// The number that an option gives, if it stands.
-fn optional_number(matches: &ArgMatches<'_>, id: &str) -> Result<Option<u32>, ArgumentError>
-    ensures asked { IfOk result (IsNumberIfAny (rows_of (found_of matches.now)) id.now) }
-    ensures some { IfOk result (λ found. IfSome found (λ n. 1 ≤ n)) }
-    ensures only { IfErr result (λ _. HasNoNumberIfAny (rows_of (found_of matches.now)) id.now) }
-{
-    match written_number(matches, id)? {
-        Some(0) => Err(ArgumentError::OverLimit),
-        found => Ok(found),
-    }
-}
-
-/// The number that is written of an option, if it stands.
-fn written_number(matches: &ArgMatches<'_>, id: &str) -> Result<Option<u32>, ArgumentError>
-    ensures asked { IfOk result (IsNumberIfAny (rows_of (found_of matches.now)) id.now) }
-    ensures only { IfErr result (λ _. (found : Option ℕ) → IsNumberIfAny (rows_of (found_of matches.now)) id.now found → ⊥) }
+/// The number between these that an option gives, if it stands.
+fn optional_number(
+    matches: &ArgMatches<'_>,
+    id: &str,
+    least: u32,
+    most: u32,
+) -> Result<Option<u32>, MuError>
+    ensures value { IfOk result (λ found. found ≡ number_in (rows_of (found_of matches.now)) id.now) }
+    ensures within { IfOk result (λ found. IfSome found (λ n. (least ≤ n) × (n ≤ most))) }
+    ensures read { Finds (λ _. IsWithin (rows_of (found_of matches.now)) id.now least most) result }
 {
     match matches.try_get_one::<u32>(id) {
-        Ok(found) => Ok(found),
-        Err(_) => Err(ArgumentError::OverLimit),
+        Ok(None) => Ok(None),
+        Ok(Some(n)) => {
+            if least <= n && n <= most {
+                Ok(Some(n))
+            } else {
+                Err(MuError::Arguments(ArgumentError::OverLimit))
+            }
+        }
+        Err(_) => Err(MuError::Arguments(ArgumentError::OverLimit)),
     }
 }

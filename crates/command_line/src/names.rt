@@ -3,7 +3,7 @@
 ghost use Rattle.std.specs.Prelude.{◌≡◌, ◌↔◌, ◌⊎◌, ◌∷◌, ◌++◌, [], IfErr, IfOk, IsTrue, codes, map, option_map};
 ghost use Rattle.std.specs.List.{list_any};
 ghost use Rattle.std.specs.String.{string_bytes};
-ghost use Rattle.command_line.specs.Refused.{IfArguments, IsLineError};
+ghost use Rattle.command_line.specs.Refused.{IsLineError};
 ghost use Rattle.command_line.specs.Named.{name_of};
 ghost use Rattle.command_line.specs.Names.{AreApart, IsApart, KeepsFiles, HasEnding, even_name, has_name, is_device, odd_name, read_beside};
 
@@ -51,8 +51,7 @@ pub struct Named<'a> {
 /// U1, with both files; U4.
 pub fn keep_files(alloc: Global, command: &Command<'_>) -> Result<(), MuError>
     ensures kept { IfOk result (λ _. KeepsFiles command.now) }
-    ensures refused { IfErr result IsLineError }
-    ensures only { IfErr result (λ e. IfArguments e (KeepsFiles command.now → ⊥)) }
+    ensures refused { IfErr result (IsLineError (KeepsFiles command.now → ⊥)) }
 {
     let outputs = command.outputs();
     let Some(path) = outputs.evidence else {

@@ -1,7 +1,7 @@
 // What the program can be asked to do. The files are named as on the command line.
 
 ghost use Rattle.std.specs.Prelude.{◌≡◌, ◌↔◌, IsTrue};
-ghost use Rattle.command_line.specs.Command.{IsReportAlone};
+ghost use Rattle.command_line.specs.CommandLine.{IsReportAlone};
 ghost use Rattle.command_line.specs.Files.{files_of, formulas_of, main_file_of, outputs_of};
 
 use requests::error::CheckFile;

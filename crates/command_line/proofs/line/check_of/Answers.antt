@@ -1,19 +1,14 @@
-use Rattle.clap.specs.Words.{found_of, rows_of}
-use Rattle.command_line.proofs.Refusals.{at_err, only_check}
+use Rattle.command_line.proofs.Refusals.{refused}
 use Rattle.command_line.proofs.line.check_of.Goals as goal
 
-pub returns-in_err-system-clause-only : goal.returns-in_err-system-clause-only
-returns-in_err-system-clause-only c = at_err _ (only_check (rows_of (found_of c.args.matches.now))
-    (λ check outputs is asked complete plain. c.in_err-system.ensures.only check.system is.system complete.0)) c.from_residual.result
+pub returns-in_err-system : goal.returns-in_err-system
+returns-in_err-system c = refused _ _ _ _ c.from_residual.ensures.1 c.in_err-system.ensures (λ both is. (both.0.system, is.0.system))
 
-pub returns-in_err-formula-clause-only : goal.returns-in_err-formula-clause-only
-returns-in_err-formula-clause-only c = at_err _ (only_check (rows_of (found_of c.args.matches.now))
-    (λ check outputs is asked complete plain. c.in_err-formula.ensures.only check.formula is.formula complete.1)) c.from_residual-in_err-formula.result
+pub returns-in_err-formula : goal.returns-in_err-formula
+returns-in_err-formula c = refused _ _ _ _ c.from_residual-in_err-formula.ensures.1 c.in_err-formula.ensures (λ both is. (both.0.formula, is.0.formula))
 
-pub returns-in_err-options-clause-only : goal.returns-in_err-options-clause-only
-returns-in_err-options-clause-only c = at_err _ (only_check (rows_of (found_of c.args.matches.now))
-    (λ check outputs is asked complete plain. c.in_err-options.ensures.only check.options is.options complete.2)) c.from_residual-in_err-options.result
+pub returns-in_err-options : goal.returns-in_err-options
+returns-in_err-options c = refused _ _ _ _ c.from_residual-in_err-options.ensures.1 c.in_err-options.ensures (λ both is. (both.0.options, is.0.options))
 
-pub returns-in_err-outputs-clause-only : goal.returns-in_err-outputs-clause-only
-returns-in_err-outputs-clause-only c = at_err _ (only_check (rows_of (found_of c.args.matches.now))
-    (λ check outputs is asked complete plain. c.in_err-outputs.ensures.only outputs asked complete.3 complete.4)) c.from_residual-in_err-outputs.result
+pub returns-in_err-outputs : goal.returns-in_err-outputs
+returns-in_err-outputs c = refused _ _ _ _ c.from_residual-in_err-outputs.ensures.1 c.in_err-outputs.ensures (λ both is. (both.1, is.1))

@@ -1,50 +1,32 @@
-use Rattle.std.proofs.Common.{subst}
+use Rattle.std.proofs.Common.{◌∙◌, subst, sym, true≢false}
 use Rattle.command_line.specs.CommandLine.{IsRead}
-use Rattle.command_line.specs.Refusals.{ReadsNone, destructive, incomplete, repeated, untaken}
-use Rattle.command_line.proofs.Refusals.{handed_on, holds_if, only_if}
+use Rattle.command_line.specs.Refusals.{destructive, incomplete, repeated, untaken}
+use Rattle.command_line.proofs.Asked.{asked_by}
+use Rattle.command_line.proofs.Refusals.{handed_on}
 use Rattle.command_line.proofs.line.command.Goals as goal
 
-pub returns-clause-asked : goal.returns-clause-asked
-returns-clause-asked c =
+pub returns-then-reads_once-clause-asked : goal.returns-then-reads_once-clause-asked
+returns-then-reads_once-clause-asked c = asked_by _ _ _ c.in_ok-matches.ensures.found c.in_ok-command.ensures
+
+pub returns-in_err-matches-clause-refused : goal.returns-in_err-matches-clause-refused
+returns-in_err-matches-clause-refused c = handed_on _ _ (λ without. untaken without) _ _ c.from_residual.ensures.1 c.in_err-matches.ensures.refused
+
+pub returns-in_err-command-clause-refused : goal.returns-in_err-command-clause-refused
+returns-in_err-command-clause-refused c =
     let found = c.in_ok-matches.ensures.found in
-    record {
+    handed_on _ _ (λ none. incomplete (record {
       app = found.app;
       table = found.table;
-      read = subst (λ o. IsRead o c.in_ok-command.command) found.rows c.in_ok-command.ensures.asked;
-    }
+      none = λ command read. none command
+          (subst (λ o. IsRead o command) (sym found.rows) read);
+    })) _ _ c.from_residual-in_err-command.ensures.1 c.in_err-command.ensures
 
-pub returns-in_err-matches-clause-only : goal.returns-in_err-matches-clause-only
-returns-in_err-matches-clause-only c =
-    handed_on c.from_residual.result _ _ c.from_residual.ensures.1 (only_if _ _ (λ without. untaken without) _ c.in_err-matches.ensures.only)
+pub returns-in_err-keep_files-clause-refused : goal.returns-in_err-keep_files-clause-refused
+returns-in_err-keep_files-clause-refused c =
+    handed_on _ _ (destructive c.in_ok-command.command (asked_by _ _ _ c.in_ok-matches.ensures.found c.in_ok-command.ensures))
+    _ _ c.from_residual-in_err-keep_files.ensures.1 c.in_err-keep_files.ensures.refused
 
-pub returns-in_err-command-clause-only : goal.returns-in_err-command-clause-only
-returns-in_err-command-clause-only c =
-    let found = c.in_ok-matches.ensures.found in
-    handed_on c.from_residual-in_err-command.result _ _ c.from_residual-in_err-command.ensures.1
-    (only_if _ _ (λ none. incomplete (record { app = found.app; table = found.table; none = subst ReadsNone found.rows none })) _ c.in_err-command.ensures.only)
-
-pub returns-in_err-keep_files-clause-only : goal.returns-in_err-keep_files-clause-only
-returns-in_err-keep_files-clause-only c =
-    let found = c.in_ok-matches.ensures.found in
-    handed_on c.from_residual-in_err-keep_files.result _ _ c.from_residual-in_err-keep_files.ensures.1 (only_if _ _ (λ destroys. destructive (record {
-      command = c.in_ok-command.command;
-      asked = record {
-        app = found.app;
-        table = found.table;
-        read = subst (λ o. IsRead o c.in_ok-command.command) found.rows c.in_ok-command.ensures.asked;
-      };
-      destroys = destroys;
-    })) _ c.in_err-keep_files.ensures.only)
-
-pub returns-in_err-read_once-clause-only : goal.returns-in_err-read_once-clause-only
-returns-in_err-read_once-clause-only c =
-    let found = c.in_ok-matches.ensures.found in
-    handed_on c.from_residual-in_err-read_once.result _ _ c.from_residual-in_err-read_once.ensures.1 (holds_if _ (repeated (record {
-      command = c.in_ok-command.command;
-      asked = record {
-        app = found.app;
-        table = found.table;
-        read = subst (λ o. IsRead o c.in_ok-command.command) found.rows c.in_ok-command.ensures.asked;
-      };
-      twice = c.in_err-read_once.ensures.only;
-    })) _)
+pub returns-clause-refused : goal.returns-clause-refused
+returns-clause-refused c =
+    repeated c.in_ok-command.command (asked_by _ _ _ c.in_ok-matches.ensures.found c.in_ok-command.ensures)
+    (λ once. true≢false (sym (c.reads_once.ensures.1 once) ∙ c.if-reads_once.false))

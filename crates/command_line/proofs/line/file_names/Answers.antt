@@ -1,30 +1,41 @@
-use Rattle.std.proofs.Common.{◌≡◌, ◌∙◌, ap, sym, true≢false, List, Some, None}
+use Rattle.std.proofs.Common.{◌≡◌, ◌∙◌, ap, rules, sym, true, false, true≢false, List, Some, None}
 use Rattle.std.specs.Prelude.{map, option_map}
-use Rattle.std.proofs.lemmas.Result.{IfErr-weaker, IfOk-weaker}
 use Rattle.std.specs.Borrow.{Bor}
+use Rattle.std.specs.List.{list_all}
+use Rattle.std.proofs.lemmas.List.Folds.{list_all-map}
 use Rattle.clap.specs.Words.{Text, found_of}
 use Rattle.clap.proofs.WalkLemmas.{raw_values-rows}
-use Rattle.command_line.proofs.Refusals.{only_if, same_named}
+use Rattle.command_line.specs.CommandLine.{is_named}
 use Rattle.command_line.proofs.line.file_names.Goals as goal
 
-pub returns-in-None-clause-only : goal.returns-in-None-clause-only
-returns-in-None-clause-only c = λ files is named.
+abbrev texts_of : List (Bor Text) → List Text
+texts_of files = map (λ f. f.now) files
+
+pub returns-in-None : goal.returns-in-None
+returns-in-None c = λ files are.
     let read = sym (raw_values-rows (found_of c.args.matches.now) c.args.id.now) ∙ (sym c.get_strs.ensures
-    ∙ ap (option_map (λ (s : Bor (List (Bor Text))). map (λ (v : Bor Text). v.now) s.now)) c.in-None.is) in
-    let bad : None ≡ Some (map (λ (f : Bor Text). f.now) files) = sym read ∙ is in
+    ∙ ap (option_map (λ (s : Bor (List (Bor Text))). texts_of s.now)) c.in-None.is) in
+    let bad : None ≡ Some (texts_of files.items) = sym read ∙ are.stand in
     absurd (cc)
 
-pub returns-in-Some-clause-asked : goal.returns-in-Some-clause-asked
-returns-in-Some-clause-asked c =
+pub returns-then-not-are_named : goal.returns-then-not-are_named
+returns-then-not-are_named c = λ files are.
+    let names = c.in-Some.names.now in
     let read = sym (raw_values-rows (found_of c.args.matches.now) c.args.id.now) ∙ (sym c.get_strs.ensures
-    ∙ ap (option_map (λ (s : Bor (List (Bor Text))). map (λ (v : Bor Text). v.now) s.now)) c.in-Some.is) in
-    IfOk-weaker c.all_named.result _ _ (λ copy same. read ∙ ap (λ (vs : List (Bor Text)). Some (map (λ (v : Bor Text). v.now) vs)) (sym same))
-    c.all_named.ensures.items
+    ∙ ap (option_map (λ (s : Bor (List (Bor Text))). texts_of s.now)) c.in-Some.is) in
+    let both : Some (texts_of files.items) ≡ Some (texts_of names) = sym are.stand ∙ read in
+    let same : texts_of files.items ≡ texts_of names = cc in
+    let unnamed : list_all (λ (name : Bor Text). is_named name.now) names ≡ false = search rules in
+    true≢false (sym are.named ∙ (ap (list_all is_named) same ∙ (list_all-map is_named (λ (f : Bor Text). f.now) names ∙ unnamed)))
 
-pub returns-in-Some-clause-only : goal.returns-in-Some-clause-only
-returns-in-Some-clause-only c =
+pub returns-in-Ok : goal.returns-in-Ok
+returns-in-Ok c =
+    let names = c.in-Some.names.now in
     let read = sym (raw_values-rows (found_of c.args.matches.now) c.args.id.now) ∙ (sym c.get_strs.ensures
-    ∙ ap (option_map (λ (s : Bor (List (Bor Text))). map (λ (v : Bor Text). v.now) s.now)) c.in-Some.is) in
-    IfErr-weaker c.all_named.result _ _ (λ e. only_if _ _ (λ bad files is named.
-    let same : Some (map (λ (f : Bor Text). f.now) files) ≡ Some (map (λ (f : Bor Text). f.now) c.in-Some.names.now) = sym is ∙ read in
-    true≢false (sym named ∙ (same_named files c.in-Some.names.now (cc) ∙ bad))) e) c.all_named.ensures.only
+    ∙ ap (option_map (λ (s : Bor (List (Bor Text))). texts_of s.now)) c.in-Some.is) in
+    let same : names ≡ c.in-Ok.copy.items = search rules in
+    let named : list_all (λ (name : Bor Text). is_named name.now) names ≡ true = search rules in
+    record {
+      stand = read ∙ ap (λ files. Some (texts_of files)) same;
+      named = ap (λ files. list_all is_named (texts_of files)) (sym same) ∙ (list_all-map is_named (λ (f : Bor Text). f.now) names ∙ named);
+    }

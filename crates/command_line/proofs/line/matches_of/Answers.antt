@@ -12,6 +12,6 @@ returns-in-Ok-try_get_matches_from-clause-found c =
       rows = (c.in-Ok-try_get_matches_from.ensures.matches (table_is_simple _ table)).1;
     }
 
-pub returns-in-Err-clause-only : goal.returns-in-Err-clause-only
-returns-in-Err-clause-only c = is_untaken _ (app_of c.in-Ok.parser) c.in-Ok.ensures c.refusal.result
+pub returns-in-Err-clause-refused : goal.returns-in-Err-clause-refused
+returns-in-Err-clause-refused c = is_untaken _ (app_of c.in-Ok.parser) c.in-Ok.ensures c.refusal.result c.refusal.ensures.line
     (λ taken. c.refusal.ensures.memory (c.in-Err.ensures.passes taken))

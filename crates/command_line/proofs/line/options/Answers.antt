@@ -1,12 +1,8 @@
-use Rattle.command_line.proofs.Refusals.{at_err}
+use Rattle.command_line.proofs.Refusals.{refused}
 use Rattle.command_line.proofs.line.options.Goals as goal
 
-pub returns-in_err-number-clause-only : goal.returns-in_err-number-clause-only
-returns-in_err-number-clause-only c =
-    at_err _ (λ options is within. c.in_err-number.ensures.only options.workers is.workers within.0 within.1)
-    c.from_residual.result
+pub returns-in_err-number : goal.returns-in_err-number
+returns-in_err-number c = refused _ _ _ _ c.from_residual.ensures.1 c.in_err-number.ensures.read (λ options is. (options.workers, is.workers))
 
-pub returns-in_err-number-2-clause-only : goal.returns-in_err-number-2-clause-only
-returns-in_err-number-2-clause-only c =
-    at_err _ (λ options is within. c.in_err-number-2.ensures.only options.shards is.shards within.2 within.3)
-    c.from_residual-in_err-number-2.result
+pub returns-in_err-number-2 : goal.returns-in_err-number-2
+returns-in_err-number-2 c = refused _ _ _ _ c.from_residual-in_err-number-2.ensures.1 c.in_err-number-2.ensures.read (λ options is. (options.shards, is.shards))

@@ -1,19 +1,14 @@
-use Rattle.clap.specs.Words.{found_of, rows_of}
-use Rattle.command_line.proofs.Refusals.{at_err, only_replay}
+use Rattle.command_line.proofs.Refusals.{refused}
 use Rattle.command_line.proofs.line.replay_of.Goals as goal
 
-pub returns-in_err-file_name-clause-only : goal.returns-in_err-file_name-clause-only
-returns-in_err-file_name-clause-only c = at_err _ (only_replay (rows_of (found_of c.args.matches.now))
-    (λ replay is complete. c.in_err-file_name.ensures.only replay.system is.system complete.0)) c.from_residual.result
+pub returns-in_err-file_name : goal.returns-in_err-file_name
+returns-in_err-file_name c = refused _ _ _ _ c.from_residual.ensures.1 c.in_err-file_name.ensures (λ replay is. (replay.system, is.system))
 
-pub returns-in_err-file_name-2-clause-only : goal.returns-in_err-file_name-2-clause-only
-returns-in_err-file_name-2-clause-only c = at_err _ (only_replay (rows_of (found_of c.args.matches.now))
-    (λ replay is complete. c.in_err-file_name-2.ensures.only replay.formula is.formula complete.1)) c.from_residual-in_err-file_name-2.result
+pub returns-in_err-file_name-2 : goal.returns-in_err-file_name-2
+returns-in_err-file_name-2 c = refused _ _ _ _ c.from_residual-in_err-file_name-2.ensures.1 c.in_err-file_name-2.ensures (λ replay is. (replay.formula, is.formula))
 
-pub returns-in_err-file_name-3-clause-only : goal.returns-in_err-file_name-3-clause-only
-returns-in_err-file_name-3-clause-only c = at_err _ (only_replay (rows_of (found_of c.args.matches.now))
-    (λ replay is complete. c.in_err-file_name-3.ensures.only replay.schedule is.schedule complete.2)) c.from_residual-in_err-file_name-3.result
+pub returns-in_err-file_name-3 : goal.returns-in_err-file_name-3
+returns-in_err-file_name-3 c = refused _ _ _ _ c.from_residual-in_err-file_name-3.ensures.1 c.in_err-file_name-3.ensures (λ replay is. (replay.schedule, is.schedule))
 
-pub returns-in_err-number-clause-only : goal.returns-in_err-number-clause-only
-returns-in_err-number-clause-only c = at_err _ (only_replay (rows_of (found_of c.args.matches.now))
-    (λ replay is complete. c.in_err-number.ensures.only replay.workers is.workers complete.3 complete.4)) c.from_residual-in_err-number.result
+pub returns-in_err-number : goal.returns-in_err-number
+returns-in_err-number c = refused _ _ _ _ c.from_residual-in_err-number.ensures.1 c.in_err-number.ensures.read (λ replay is. (replay.workers, is.workers))

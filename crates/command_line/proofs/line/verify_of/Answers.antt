@@ -1,15 +1,11 @@
-use Rattle.clap.specs.Words.{found_of, rows_of}
-use Rattle.command_line.proofs.Refusals.{at_err, only_verify}
+use Rattle.command_line.proofs.Refusals.{refused}
 use Rattle.command_line.proofs.line.verify_of.Goals as goal
 
-pub returns-in_err-file_name-clause-only : goal.returns-in_err-file_name-clause-only
-returns-in_err-file_name-clause-only c = at_err _ (only_verify (rows_of (found_of c.args.matches.now))
-    (λ verify is complete. c.in_err-file_name.ensures.only verify.game is.game complete.0)) c.from_residual.result
+pub returns-in_err-file_name : goal.returns-in_err-file_name
+returns-in_err-file_name c = refused _ _ _ _ c.from_residual.ensures.1 c.in_err-file_name.ensures (λ verify is. (verify.game, is.game))
 
-pub returns-in_err-file_name-2-clause-only : goal.returns-in_err-file_name-2-clause-only
-returns-in_err-file_name-2-clause-only c = at_err _ (only_verify (rows_of (found_of c.args.matches.now))
-    (λ verify is complete. c.in_err-file_name-2.ensures.only verify.evidence is.evidence complete.1)) c.from_residual-in_err-file_name-2.result
+pub returns-in_err-file_name-2 : goal.returns-in_err-file_name-2
+returns-in_err-file_name-2 c = refused _ _ _ _ c.from_residual-in_err-file_name-2.ensures.1 c.in_err-file_name-2.ensures (λ verify is. (verify.evidence, is.evidence))
 
-pub returns-in_err-optional_name-clause-only : goal.returns-in_err-optional_name-clause-only
-returns-in_err-optional_name-clause-only c = at_err _ (only_verify (rows_of (found_of c.args.matches.now))
-    (λ verify is complete. c.in_err-optional_name.ensures.only verify.other is.other complete.2)) c.from_residual-in_err-optional_name.result
+pub returns-in_err-optional_name : goal.returns-in_err-optional_name
+returns-in_err-optional_name c = refused _ _ _ _ c.from_residual-in_err-optional_name.ensures.1 c.in_err-optional_name.ensures (λ verify is. (verify.other, is.other))

@@ -1,19 +1,14 @@
-use Rattle.clap.specs.Words.{found_of, rows_of}
-use Rattle.command_line.proofs.Refusals.{at_err, only_why}
+use Rattle.command_line.proofs.Refusals.{refused}
 use Rattle.command_line.proofs.line.why_of.Goals as goal
 
-pub returns-in_err-file_name-clause-only : goal.returns-in_err-file_name-clause-only
-returns-in_err-file_name-clause-only c = at_err _ (only_why (rows_of (found_of c.args.matches.now))
-    (λ why is complete. c.in_err-file_name.ensures.only why.system is.system complete.0)) c.from_residual.result
+pub returns-in_err-file_name : goal.returns-in_err-file_name
+returns-in_err-file_name c = refused _ _ _ _ c.from_residual.ensures.1 c.in_err-file_name.ensures (λ why is. (why.system, is.system))
 
-pub returns-in_err-file_name-2-clause-only : goal.returns-in_err-file_name-2-clause-only
-returns-in_err-file_name-2-clause-only c = at_err _ (only_why (rows_of (found_of c.args.matches.now))
-    (λ why is complete. c.in_err-file_name-2.ensures.only why.formula is.formula complete.1)) c.from_residual-in_err-file_name-2.result
+pub returns-in_err-file_name-2 : goal.returns-in_err-file_name-2
+returns-in_err-file_name-2 c = refused _ _ _ _ c.from_residual-in_err-file_name-2.ensures.1 c.in_err-file_name-2.ensures (λ why is. (why.formula, is.formula))
 
-pub returns-in_err-options-clause-only : goal.returns-in_err-options-clause-only
-returns-in_err-options-clause-only c = at_err _ (only_why (rows_of (found_of c.args.matches.now))
-    (λ why is complete. c.in_err-options.ensures.only why.options is.options complete.2)) c.from_residual-in_err-options.result
+pub returns-in_err-options : goal.returns-in_err-options
+returns-in_err-options c = refused _ _ _ _ c.from_residual-in_err-options.ensures.1 c.in_err-options.ensures (λ why is. (why.options, is.options))
 
-pub returns-in_err-lines-clause-only : goal.returns-in_err-lines-clause-only
-returns-in_err-lines-clause-only c = at_err _ (only_why (rows_of (found_of c.args.matches.now))
-    (λ why is complete. c.in_err-lines.ensures.only why.limit is.limit)) c.from_residual-in_err-lines.result
+pub returns-in_err-number : goal.returns-in_err-number
+returns-in_err-number c = refused _ _ _ _ c.from_residual-in_err-number.ensures.1 c.in_err-number.ensures.read (λ why is. (why.limit, is.limit))
