@@ -1,12 +1,10 @@
-// Short lines that are written many at a time. The numbers are counted by hand: 8,192 bytes wait at the most.
+// Short lines that are written many at a time: how many writes that takes, of which no clause speaks. The numbers are counted by hand: 8,192 bytes wait at
+// the most.
 
-use crate::common::holds_of;
 use samples::holds;
 use samples::host::Host;
-use samples::writers::{AMPLE, Narrow};
 use std::io;
 use std::io::Write;
-use std::process::Abort;
 use text::sink::Sink;
 use text::{Lines, WriteFault, put, put_lines};
 
@@ -31,16 +29,16 @@ impl Lines for Alike<'_> {
     }
 }
 
-/// A writer that takes everything, and counts the writes.
+/// A writer that takes everything, and counts the bytes and the writes.
 #[derive(Drop)]
 struct Counting {
-    taken: Vec<u8>,
+    bytes: usize,
     writes: usize,
 }
 
 impl Write for Counting {
     fn write(&mut self, buf: &[u8]) -> io::Result<usize> {
-        self.taken.extend_from_slice(buf)?;
+        self.bytes = self.bytes.saturating_add(buf.len());
         self.writes = self.writes.saturating_add(1);
         Ok(buf.len())
     }
@@ -50,77 +48,25 @@ impl Write for Counting {
     }
 }
 
-// A writer that has taken nothing.
-fn counter(rt: &impl AllocGlobal) -> Counting {
-    Counting {
-        taken: Vec::new(rt.alloc()),
+// So many lines of so many bytes take so many writes.
+fn take(rt: &impl Host, count: usize, length: usize, writes: usize) {
+    let line = vec![in rt.alloc(); b'x'; length].expect(rt, "memory");
+    let lines = Alike {
+        count,
+        line: line.as_slice(),
+    };
+    let mut out = Counting {
+        bytes: 0,
         writes: 0,
-    }
+    };
+    holds!(rt; put_lines(&lines, &mut out).is_ok());
+    holds!(rt; out.writes == writes && out.bytes == count.saturating_mul(length));
 }
 
-// So many lines take so many writes.
-fn takes(rt: &impl Abort, out: &mut Counting, count: usize, line: &[u8], writes: usize) {
-    let lines = Alike { count, line };
-    holds!(rt; put_lines(&lines, out).is_ok());
-    holds!(rt; out.writes == writes);
-    holds!(rt; out.taken.len() == count.saturating_mul(line.len()));
-}
-
-const SHORT: &[u8] = b"0123456789\n";
-
-// Whether a text has the short line again and again.
-fn are_short(text: &[u8]) -> bool {
-    for line in text.chunks(11) {
-        if line != SHORT {
-            return false;
-        }
-    }
-    true
-}
-
+// A line that has no room is written by itself.
 #[test]
 fn a_thousand_short_lines_take_two_writes(rt: HostRuntime) {
-    let mut out = counter(&rt);
-    takes(&rt, &mut out, 1000, SHORT, 2);
-    holds!(&rt; are_short(out.taken.as_slice()));
-    drop(out);
-}
-
-#[test]
-fn a_line_that_has_no_room_is_written_by_itself(rt: HostRuntime) {
-    let long = vec![in rt.alloc(); b'x'; 8193].expect(&rt, "memory");
-    takes(&rt, &mut counter(&rt), 3, long.as_slice(), 3);
-    drop(long);
-}
-
-#[test]
-fn no_lines_take_no_write(rt: HostRuntime) {
-    takes(&rt, &mut counter(&rt), 0, b"line\n", 0);
-}
-
-// Of a thousand short lines a writer keeps what it has room for, and a fault is told unless it is all.
-fn keeps(rt: &impl Host, room: usize, kept: usize) {
-    let mut out = Narrow::new(rt.alloc(), 100, room);
-    let lines = Alike {
-        count: 1000,
-        line: SHORT,
-    };
-    holds_of(
-        rt,
-        put_lines(&lines, &mut out).is_ok() == (kept == 11_000),
-        "room",
-        room as u64,
-    );
-    holds_of(rt, out.taken.len() == kept, "room", room as u64);
-    drop(out);
-}
-
-static ROOMS: [usize; 6] = [0, 1, 8183, 8184, 8185, 10_999];
-
-#[test]
-fn a_writer_that_is_full_keeps_a_beginning(rt: HostRuntime) {
-    for room in &ROOMS {
-        keeps(&rt, *room, *room);
-    }
-    keeps(&rt, AMPLE, 11_000);
+    take(&rt, 1000, 11, 2);
+    take(&rt, 3, 8193, 3);
+    take(&rt, 0, 5, 0);
 }

@@ -16,15 +16,49 @@ use game::build::build;
 use game::graph::Game;
 use lts::Lts;
 use measures::settle::solve_one;
-use measures::table::Settled;
 use normal::make::normal;
 use samples::games::{GameRow, game_of_rows};
 use samples::holds;
 use samples::host::Host;
-use samples::readers::SlowReader;
 use samples::texts::{parsed_formula, repeated_text, system_read};
-use samples::writers::{AtEnd, Narrow};
+use samples::writers::{AMPLE, AtEnd, Narrow};
 use std::process::Abort;
+
+/// What a reader may give at a time: a byte, less than a line, and as much as a block has.
+pub(crate) static STEPS: [usize; 3] = [1, 7, 8192];
+
+/// What has a text.
+pub(crate) trait Written {
+    /// Whether the text is written whole.
+    fn is_written(&self, out: &mut Narrow) -> bool;
+}
+
+// A writer with so much room, which takes so much at a time, has as much of the text as it could take, and a fault is told unless that is all.
+fn is_taken<W: Written>(rt: &impl Host, what: &W, text: &str, mut out: Narrow, room: usize) {
+    let is_whole = what.is_written(&mut out);
+    let count = room.min(text.len());
+    let is_so = out.taken.len() == count && text.as_bytes().starts_with(out.taken.as_slice());
+    holds!(rt; is_so && is_whole == (room >= text.len()), text);
+    drop(out);
+}
+
+/// This is written, whatever a writer takes at a time, and also where it is interrupted. One without room for the whole is given a beginning, however it
+/// goes on then.
+pub(crate) fn is_written<W: Written>(rt: &impl Host, what: &W, text: &str) {
+    for step in &STEPS {
+        is_taken(rt, what, text, Narrow::new(rt.alloc(), *step, AMPLE), AMPLE);
+    }
+    let mut halting = Narrow::new(rt.alloc(), 4, AMPLE);
+    halting.interrupts = true;
+    is_taken(rt, what, text, halting, AMPLE);
+    for room in 0..text.len() {
+        let mut out = Narrow::new(rt.alloc(), 4, room);
+        if room % 2 == 0 {
+            out.at_end = AtEnd::TakesNothing;
+        }
+        is_taken(rt, what, text, out, room);
+    }
+}
 
 /// What is told is one of two texts.
 pub(crate) fn is_either(rt: &impl Abort, told: &str, first: &str, second: &str) {
@@ -46,7 +80,7 @@ pub(crate) fn even_of(rt: &impl Host, game: &Game) -> Evidence
     ensures game { result.game ≡ game.now }
     ensures good { IsGood game.now result.evidence }
 {
-    let settled = solved(rt, game);
+    let settled = solve_one(rt.alloc(), game).expect(rt, "memory");
     let even = even_evidence(rt.alloc(), game, &settled).expect(rt, "memory");
     drop(settled);
     even
@@ -61,45 +95,11 @@ pub(crate) fn odd_of(rt: &impl Host, game: &Game) -> Evidence
     odd_evidence(rt.alloc(), game).expect(rt, "memory")
 }
 
-/// A reader that hands out so many bytes of a text at a time.
-pub(crate) fn slow(text: &[u8], step: usize) -> SlowReader<'_> {
-    SlowReader::whole(text, step)
-}
-
-/// A reader that hands out so many bytes of a text, some at a time, and then fails.
-pub(crate) fn failing(text: &[u8], step: usize, given: usize) -> SlowReader<'_> {
-    SlowReader::failing(text, step, given)
-}
-
-/// A writer with so much room, and how it goes on where it has none left.
-pub(crate) fn narrow(rt: &impl AllocGlobal, step: usize, room: usize, at_end: AtEnd) -> Narrow {
-    let mut out = Narrow::new(rt.alloc(), step, room);
-    out.at_end = at_end;
-    out
-}
-
-/// A writer has taken just this text.
-pub(crate) fn has_all(out: &Narrow, text: &str) -> bool {
-    out.taken.as_slice() == text.as_bytes()
-}
-
-/// A writer with so much room has taken as much of a text as it could.
-pub(crate) fn has_taken(out: &Narrow, room: usize, text: &str) -> bool {
-    out.taken.len() == room && text.as_bytes().starts_with(out.taken.as_slice())
-}
-
 /// What is claimed is so, or else the test tells the text.
 pub(crate) fn require(rt: &impl Abort, is_so: bool, text: &str)
     ensures { is_so ≡ true }
 {
     assert!(rt; is_so, "{text}");
-}
-
-/// What is claimed of a number is so, or else the test tells the text and the number.
-pub(crate) fn holds_of(rt: &impl Abort, is_so: bool, text: &str, number: u64)
-    ensures { is_so ≡ true }
-{
-    assert!(rt; is_so, "{text} {number}");
 }
 
 /// Of a text what was found is what was wanted.
@@ -117,15 +117,10 @@ pub(crate) fn formula(rt: &impl Host, text: &str) -> Closed {
     parsed_formula(rt.alloc(), text).expect(rt, "a formula")
 }
 
-/// The normal form of a formula.
-pub(crate) fn normal_form(rt: &impl Host, formula: &Closed) -> Normal {
-    normal(rt.alloc(), formula).expect(rt, "a normal form")
-}
-
 /// The normal form of a text's formula.
 pub(crate) fn form(rt: &impl Host, text: &str) -> Normal {
     let formula = formula(rt, text);
-    let form = normal_form(rt, &formula);
+    let form = normal(rt.alloc(), &formula).expect(rt, "a normal form");
     drop(formula);
     form
 }
@@ -143,24 +138,7 @@ pub(crate) fn game_by_hand(rt: &impl Host, rows: &[GameRow]) -> Game {
     game_of_rows(rt, rows).expect(rt, "a game")
 }
 
-/// The least progress table of a game.
-pub(crate) fn solved(rt: &impl Host, game: &Game) -> Settled
-    ensures { result.game ≡ game.now }
-{
-    solve_one(rt.alloc(), game).expect(rt, "memory")
-}
-
 /// A beginning, a part that stands so often, and an end.
 pub(crate) fn repeated(rt: &impl Host, head: &str, part: &str, times: usize, tail: &str) -> String {
     repeated_text(rt.alloc(), head, part, times, tail).expect(rt, "memory")
-}
-
-/// A text gets this at its end.
-pub(crate) fn push_text(rt: &impl Abort, text: &mut String, part: &str) {
-    text.push_str(part).expect(rt, "memory");
-}
-
-/// The text of a system gets one more step.
-pub(crate) fn push_step(rt: &impl Abort, text: &mut String, source: u32, label: &str, target: u32) {
-    write!(text, "({source},\"{label}\",{target})\n").expect(rt, "memory");
 }

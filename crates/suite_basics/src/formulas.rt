@@ -1,7 +1,7 @@
 // Formulas and labels: what is read and printed, of which labels an action formula holds, and at which states a formula does. tests/answers has many more
 // rows, and what is wrong with texts.
 
-use crate::common::{formula, has_all, is_either, system};
+use crate::common::{Written, formula, is_either, is_written, system};
 use calculus::closed::Closed;
 use calculus::holds;
 use calculus::tree::{Reg, State};
@@ -11,31 +11,27 @@ use meaning::plain::plain_states;
 use samples::holds;
 use samples::host::Host;
 use samples::texts::RING;
-use samples::writers::{AMPLE, Narrow};
+use samples::writers::Narrow;
 use std::alloc::{AllocError, Global};
-use std::process::Abort;
 
-const OFTEN: &str = "nu X. mu Y. (<a>X || <b>Y)";
+impl Written for Closed {
+    fn is_written(&self, out: &mut Narrow) -> bool {
+        print(self, out).is_ok()
+    }
+}
 
-// A writer with so much room takes this of the canonical text, and a fault is told just where that isn't all.
-fn prints(rt: &impl Host, text: &str, room: usize, wanted: &str) {
+fn prints(rt: &impl Host, text: &str, wanted: &str) {
     let formula = formula(rt, text);
-    let mut out = Narrow::new(rt.alloc(), 7, room);
-    let is_whole = print(&formula, &mut out).is_ok();
+    is_written(rt, &formula, wanted);
     drop(formula);
-    holds!(rt; is_whole == (room == AMPLE), text);
-    holds!(rt; has_all(&out, wanted), text);
-    drop(out);
 }
 
 #[test]
 fn a_text_is_printed_as_far_as_there_is_room(rt: HostRuntime) {
-    prints(&rt, OFTEN, AMPLE, "(nu X. (mu Y. (<a>X || <b>Y)))");
-    prints(&rt, OFTEN, 10, "(nu X. (mu");
     let text = "<b|a|b . (true || !tau)* + \"x % y\">!!true";
     let wanted = "<((a|b|b . (true || !tau)*) + \"x % y\")>!!true";
-    prints(&rt, text, AMPLE, wanted);
-    prints(&rt, wanted, AMPLE, wanted);
+    prints(&rt, text, wanted);
+    prints(&rt, wanted, wanted);
 }
 
 // The refusal of a text as it is shown, or `ok`.
@@ -48,7 +44,7 @@ fn refusal(alloc: Global, text: &str) -> Result<String, AllocError> {
 
 // Each growth may be refused: then nothing but that is told. tests/refusals refuses each in turn.
 #[test]
-fn want_of_memory_is_told_as_such(rt: HostRuntime) {
+fn out_of_memory_is_told_as_such(rt: HostRuntime) {
     let text = "nu X. [(a|b + \"c\")*](mu Y. (<a>X || <b . c>!!Y))";
     if let Ok(told) = refusal(rt.alloc(), text) {
         is_either(&rt, told.as_str(), "ok", "F9");
@@ -72,55 +68,33 @@ fn a_formula_holds_where_it_is_to(rt: HostRuntime) {
     drop(marks);
 }
 
-fn push(rt: &impl Abort, text: &mut Vec<u8>, bytes: &[u8]) {
-    text.extend_from_slice(bytes).expect(rt, "memory");
-}
-
-// Names, each before a stop.
-fn push_names(rt: &impl Abort, text: &mut Vec<u8>, label: &Label) -> bool {
-    match label.view().names {
-        None => false,
-        Some(names) => {
-            for name in names {
-                push(rt, text, name);
-                push(rt, text, b".");
-            }
-            true
-        }
-    }
-}
-
 fn label_of(rt: &impl Host, text: &str) -> Label {
     Label::new(rt.alloc(), text.as_bytes()).expect(rt, "memory")
 }
 
-// The names that a label is read as, each before a stop, or a dash.
-fn is_read_as(rt: &impl Host, text: &str, wanted: &str) {
+// A label is read as so many names, of which the first is this, if there is one, or as none.
+fn is_read_as(rt: &impl Host, text: &str, wanted: Option<(usize, &str)>) {
     let label = label_of(rt, text);
-    let mut names = Vec::new(rt.alloc());
-    if !push_names(rt, &mut names, &label) {
-        push(rt, &mut names, b"-");
-    }
+    let is_so = match (label.view().names, wanted) {
+        (Some(names), Some((count, first))) => {
+            names.len() == count
+                && names
+                    .first()
+                    .is_none_or(|name| name.as_slice() == first.as_bytes())
+        }
+        (None, None) => true,
+        _ => false,
+    };
+    holds!(rt; is_so, text);
     drop(label);
-    holds!(rt; names.as_slice() == wanted.as_bytes(), text);
-    drop(names);
 }
-
-// Labels, and the names that they are read as.
-static READINGS: [(&str, &str); 6] = [
-    ("b|a", "a.b."),
-    ("a|b|a", "a.a.b."),
-    ("tau", ""),
-    ("a|tau", "-"),
-    ("r(1)", "-"),
-    ("true", "true."),
-];
 
 #[test]
 fn labels_are_read_as_names(rt: HostRuntime) {
-    for (text, wanted) in &READINGS {
-        is_read_as(&rt, text, wanted);
-    }
+    is_read_as(&rt, "b|a|b", Some((3, "a")));
+    is_read_as(&rt, "tau", Some((0, "")));
+    is_read_as(&rt, "a|tau", None);
+    is_read_as(&rt, "r(1)", None);
 }
 
 // Whether the action formula in the formula's modality says that of the label.

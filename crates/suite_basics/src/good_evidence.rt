@@ -4,7 +4,7 @@
 ghost use Rattle.std.specs.Prelude.{◌≡◌};
 
 use crate::common::{
-    even_of, failing, game_by_hand, game_of, has_all, has_taken, odd_of, repeated, same, slow,
+    STEPS, Written, even_of, game_by_hand, game_of, is_written, odd_of, repeated, same,
 };
 use evidence::error::EvidenceError;
 use evidence::evidence::Evidence;
@@ -35,21 +35,9 @@ fn often_a(rt: &impl Host) -> Game {
     game_of(rt, RING, "nu X. mu Y. (<a>X || <b>Y)")
 }
 
-// By a writer that takes some bytes at a time.
-fn is_written(rt: &impl Host, evidence: &Evidence, wanted: &str) {
-    let mut whole = Narrow::new(rt.alloc(), 5, AMPLE);
-    holds!(rt; write_evidence(evidence, &mut whole).is_ok());
-    holds!(rt; has_all(&whole, wanted), wanted);
-    drop(whole);
-}
-
-// By writers that have too little room, which hold a beginning then.
-fn is_cut(rt: &impl Host, evidence: &Evidence, wanted: &str) {
-    for room in 0..wanted.len() {
-        let mut out = Narrow::new(rt.alloc(), 4, room);
-        holds!(rt; write_evidence(evidence, &mut out).is_err());
-        holds!(rt; has_taken(&out, room, wanted), wanted);
-        drop(out);
+impl Written for Evidence {
+    fn is_written(&self, out: &mut Narrow) -> bool {
+        write_evidence(self, out).is_ok()
     }
 }
 
@@ -81,7 +69,6 @@ fn gives_both(rt: &impl Host, game: &Game, even_text: &str, odd_text: &str) {
     are_both(rt, game, &even, &odd);
     is_written(rt, &even, even_text);
     is_written(rt, &odd, odd_text);
-    is_cut(rt, &even, even_text);
     drop(odd);
     drop(even);
 }
@@ -154,7 +141,8 @@ fn are_judged(rt: &impl Host, game: &Game, even: &Evidence, odd: &Evidence)
     let mut out = Narrow::new(rt.alloc(), 3, AMPLE);
     holds!(rt; write_verdict(even, verify(game, even), &mut out).is_ok());
     holds!(rt; write_both(even, odd, check_both(game, even, odd), &mut out).is_ok());
-    holds!(rt; has_all(&out, "verified even 4 of 6\nverified both even 4 odd 2 of 6\n"));
+    let wanted = b"verified even 4 of 6\nverified both even 4 odd 2 of 6\n".as_slice();
+    holds!(rt; out.taken.as_slice() == wanted);
     drop(out);
 }
 
@@ -176,9 +164,6 @@ fn verdicts_of_a_step(rt: HostRuntime) {
     drop(even);
     drop(game);
 }
-
-// A byte at a time, less than a line, and as much as a block has. A line that stands whole in the block at hand is read there, any other is kept shortened.
-static STEPS: [usize; 3] = [1, 7, 8192];
 
 // What was read, as it is told: a refusal, or `read`.
 fn told(alloc: Global, read: &Result<Evidence, EvidenceError>) -> Result<String, AllocError> {
@@ -223,34 +208,27 @@ fn texts_are_refused_in_any_pieces(rt: HostRuntime) {
     for (front, part, back, wanted) in &REFUSED {
         let text = repeated(&rt, front, part, 300, back);
         for step in &STEPS {
-            is_told(&rt, &game, slow(text.as_bytes(), *step), wanted);
+            is_told(
+                &rt,
+                &game,
+                SlowReader::whole(text.as_bytes(), *step),
+                wanted,
+            );
         }
         drop(text);
     }
     drop(game);
 }
 
-fn is_read_by(rt: &impl Host, game: &Game, step: usize) {
-    let reader = slow(EVEN_OF_OFTEN_A.as_bytes(), step);
-    let evidence = read_evidence(rt.alloc(), reader, game).expect(rt, "memory");
-    is_written(rt, &evidence, EVEN_OF_OFTEN_A);
-    drop(evidence);
-}
-
 // What evidence is read doesn't depend on the pieces in which it comes, and each read fails in turn.
 #[test]
 fn evidence_is_read_by_pieces(rt: HostRuntime) {
-    let game = often_a(&rt);
+    let (game, text) = (often_a(&rt), EVEN_OF_OFTEN_A.as_bytes());
     for step in &STEPS {
-        is_read_by(&rt, &game, *step);
+        is_told(&rt, &game, SlowReader::whole(text, *step), "read");
     }
-    for given in 0..EVEN_OF_OFTEN_A.len() {
-        is_told(
-            &rt,
-            &game,
-            failing(EVEN_OF_OFTEN_A.as_bytes(), 7, given),
-            "E4",
-        );
+    for given in 0..text.len() {
+        is_told(&rt, &game, SlowReader::failing(text, 7, given), "E4");
     }
     drop(game);
 }

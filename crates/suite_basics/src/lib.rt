@@ -18,11 +18,7 @@ mod good_evidence;
 #[cfg(test)]
 mod lines_and_tokens;
 #[cfg(test)]
-mod meeting_labels;
-#[cfg(test)]
 mod normal_forms;
-#[cfg(test)]
-mod plain_lines;
 #[cfg(test)]
 mod strange_words;
 #[cfg(test)]
@@ -31,5 +27,3 @@ mod system_texts;
 mod what_never_fails;
 #[cfg(test)]
 mod witnesses;
-#[cfg(test)]
-mod written_systems;

@@ -1,12 +1,13 @@
-// Texts of systems and what is wrong with them: the Aldebaran format of the mCRL2 manual, with its limits and codes as
-// docs/FORMATS.md has them. States and transitions were counted by hand.
+// Texts of systems in the Aldebaran format of the mCRL2 manual, by readers and writers that fail, are slow or are interrupted. Their transitions were put in
+// order by hand: by source, by the label's bytes and by target. tests/answers and tests/hostile have what is wrong with texts.
 
-use crate::common::{failing, is_either, same, slow, system};
-use lts::{Lts, Transition, read_aut};
+use crate::common::{STEPS, Written, is_either, is_written, same, system};
+use lts::{Lts, Transition, WriteFault, put, put_number, read_aut, write_aut};
 use samples::holds;
 use samples::host::Host;
-use samples::readers::Halting;
+use samples::readers::{Halting, SlowReader};
 use samples::texts::{RING, unseeded};
+use samples::writers::{AMPLE, Narrow};
 use std::alloc::{AllocError, Global};
 use std::io::Read;
 use std::process::Abort;
@@ -31,18 +32,15 @@ fn counts(alloc: Global, lts: &Lts) -> Result<String, AllocError> {
     format!(in alloc; "{states} {initial} {transitions} {labels}")
 }
 
-// Texts, and what is shown of each. tests/answers and tests/hostile have many more that are refused.
-static TEXTS: [(&str, &str); 10] = [
+// Texts, and what is shown of each. A line that stands whole in the block at hand is read at once, any other token by token.
+static TEXTS: [(&str, &str); 4] = [
     (RING, "2 0 2 2"),
-    ("des ( 0 , 1 , 1 )\r\n\t(0,\"tau\",0)", "1 0 1 1"),
-    ("des (0,2,2)\n(0,\"a\",1)\n(0,\"a\",1)\n", "2 0 1 1"),
-    ("des (0,0,1000000)", "1000000 0 0 0"),
-    ("des (0,0,1)\r", "1 0 0 0"),
-    ("dess (0,0,1)", "A1 at line 1"),
-    ("des (0,99999999999999999999999,1)", "A3 at line 1"),
+    (
+        "des ( 1 ,3, 2 )\r\n\t(0,\"a\",1)\n(0,\"a\",1)\n(1,\"tau\" ,0)",
+        "2 1 2 2",
+    ),
+    ("des (0,3,2)\n(0,\"a\",1)\n(1,\"b\",01)\n", "A2 at line 3"),
     ("des (0,2,2)\n(0,\"a\",1)\n", "A5 at line 3"),
-    ("des (0,0,1)\n\n", "A5 at line 2"),
-    ("des (0,0,0)", "A6 at line 1"),
 ];
 
 // What is shown of what a reader gives is this.
@@ -52,36 +50,29 @@ fn is_shown<R: Read + Drop>(rt: &impl Host, what: &str, reader: R, wanted: &str)
     drop(told);
 }
 
-fn shows(rt: &impl Host, text: &str, wanted: &str) {
-    is_shown(rt, text, slow(text.as_bytes(), 1), wanted);
-    is_shown(rt, text, slow(text.as_bytes(), 7), wanted);
-    is_shown(rt, text, slow(text.as_bytes(), 8192), wanted);
-}
-
+// An interrupted read is tried again.
 #[test]
 fn texts_are_read(rt: HostRuntime) {
     for (text, wanted) in &TEXTS {
-        shows(&rt, text, wanted);
+        for step in &STEPS {
+            is_shown(&rt, text, SlowReader::whole(text.as_bytes(), *step), wanted);
+        }
     }
+    is_shown(&rt, RING, Halting::whole(RING.as_bytes()), "2 0 2 2");
 }
 
 // A text that is good as far as it goes is refused for the failed read, wherever that comes.
 #[test]
 fn a_failed_read_is_told_wherever_it_comes(rt: HostRuntime) {
     for given in 0..=RING.len() {
-        is_shown(&rt, "a beginning", failing(RING.as_bytes(), 5, given), "A8");
+        let reader = SlowReader::failing(RING.as_bytes(), 5, given);
+        is_shown(&rt, "a beginning", reader, "A8");
     }
-}
-
-#[test]
-fn an_interrupted_read_is_tried_again(rt: HostRuntime) {
-    let reader = Halting::whole(RING.as_bytes());
-    is_shown(&rt, RING, reader, "2 0 2 2");
 }
 
 // Each growth may be refused: then nothing but that is told. tests/refusals refuses each in turn.
 #[test]
-fn want_of_memory_is_told_as_such(rt: HostRuntime) {
+fn out_of_memory_is_told_as_such(rt: HostRuntime) {
     let text = "des (2,4,3)\n(2,\"c|a|b\",0)\n(0,\"tau\",2)\n(2,\"c|a|b\",0)\n(1,\"r(1)\",1)\n";
     if let Ok(told) = shown(rt.alloc(), text.as_bytes()) {
         is_either(&rt, told.as_str(), "3 2 3 3", "A9");
@@ -89,36 +80,51 @@ fn want_of_memory_is_told_as_such(rt: HostRuntime) {
     }
 }
 
-// A text gets the label of a transition, and a blank.
-fn push_label(rt: &impl Abort, text: &mut Vec<u8>, lts: &Lts, transition: &Transition) {
-    holds!(rt; (transition.label as usize) < lts.labels());
-    let label = lts.label(transition.label).bytes;
-    text.extend_from_slice(label).expect(rt, "memory");
-    text.push(b' ').expect(rt, "memory");
-}
-
-// The transitions of a state, each with its label.
-fn push_labels(rt: &impl Abort, text: &mut Vec<u8>, lts: &Lts, state: u32) {
-    holds!(rt; state < lts.states());
-    for transition in lts.from(state) {
-        push_label(rt, text, lts, transition);
+impl Written for Lts {
+    fn is_written(&self, out: &mut Narrow) -> bool {
+        write_aut(self, out).is_ok()
     }
 }
 
-fn moves(rt: &impl Host, lts: &Lts, state: u32, labels: &str) {
-    let mut text = Vec::new(rt.alloc());
-    push_labels(rt, &mut text, lts, state);
-    holds!(rt; text.as_slice() == labels.as_bytes(), labels);
-    drop(text);
+// Rows in no order, some of them twice: in one run of a source, or in two.
+const SCATTERED: &str =
+    "des (0,8,4)\n(3,\"b\",2)\n(3,\"a\",1)\n(3,\"b\",2)\n(1,\"c\",0)\n(1,\"a\",2)\n(0,\"b\",3)\n(3,\"a\",0)\n(1,\"c\",0)\n";
+
+const IN_ORDER: &str =
+    "des (0,6,4)\n(0,\"b\",3)\n(1,\"a\",2)\n(1,\"c\",0)\n(3,\"a\",0)\n(3,\"a\",1)\n(3,\"b\",2)\n";
+
+// The label of a transition.
+fn has_label(rt: &impl Abort, lts: &Lts, transition: Transition, label: &str) {
+    holds!(rt; (transition.label as usize) < lts.labels());
+    holds!(rt; lts.label(transition.label).bytes == label.as_bytes(), label);
+}
+
+// The second and the third transition are those from state 1.
+fn has_transitions(rt: &impl Abort, lts: &Lts) {
+    holds!(rt; 1 < lts.states());
+    let row = lts.from(1);
+    holds!(rt; row.len() == 2 && lts.all().len() == 6);
+    has_label(rt, lts, row[0], "a");
+    has_label(rt, lts, row[1], "c");
 }
 
 #[test]
-fn transitions_are_found_by_their_state(rt: HostRuntime) {
-    let text = "des (0,4,3)\n(2,\"b\",0)\n(0,\"tau\",2)\n(2,\"a|b\",1)\n(2,\"b\",2)\n";
-    let lts = system(&rt, text);
-    moves(&rt, &lts, 0, "tau ");
-    moves(&rt, &lts, 1, "");
-    moves(&rt, &lts, 2, "a|b b b ");
-    holds!(&rt; lts.all().len() == 4);
+fn rows_are_put_in_order_and_each_once(rt: HostRuntime) {
+    let lts = system(&rt, SCATTERED);
+    has_transitions(&rt, &lts);
+    is_written(&rt, &lts, IN_ORDER);
     drop(lts);
+}
+
+// Nothing is a piece that any writer takes, and a failed write has a code.
+#[test]
+fn pieces_are_written(rt: HostRuntime) {
+    holds!(&rt; put(&mut Narrow::new(rt.alloc(), 1, 0), b"").is_ok());
+    let mut out = Narrow::new(rt.alloc(), 3, AMPLE);
+    holds!(&rt; put_number(&mut out, b"states ", 1_000_000_u32).is_ok());
+    holds!(&rt; out.taken.as_slice() == b"states 1000000".as_slice());
+    drop(out);
+    let code = WriteFault.to_string(rt.alloc()).expect(&rt, "memory");
+    same(&rt, "code", code.as_str(), "W1");
+    drop(code);
 }

@@ -5,12 +5,12 @@ ghost use Rattle.std.specs.Prelude.{◌≡◌, true};
 
 use calculus::priorities::Priorities;
 use engines::error::MuError;
-use engines::request::{BoardKind, Check, Options, ReportForm, Wanted};
+use engines::request::{BoardKind, Check, Options, ReportForm, Wanted, Why};
 use engines::writers::Writers;
 use lts::Lts;
 use samples::answers::answer_text;
 use samples::host::Host;
-use samples::texts::{repeated_text, ring, system_read};
+use samples::texts::{ring, system_read};
 use samples::writers::{AMPLE, Narrow};
 use std::alloc::Global;
 use std::process::Abort;
@@ -25,11 +25,7 @@ pub(crate) const DEFAULTS: Options = Options {
 
 /// The answer is this.
 pub(crate) fn says(rt: &impl Abort, text: &str, answer: &Result<bool, MuError>, wanted: bool) {
-    let is_so = match answer {
-        Ok(found) => *found == wanted,
-        Err(_) => false,
-    };
-    require(rt, is_so, text);
+    require(rt, matches!(answer, Ok(found) if *found == wanted), text);
 }
 
 /// The answer is a refusal with this code and place.
@@ -45,8 +41,8 @@ pub(crate) fn is_text(rt: &impl Abort, found: &[u8], wanted: &str) {
 
 /// These bytes are the first so many of the text.
 pub(crate) fn is_beginning(rt: &impl Abort, found: &[u8], wanted: &str, count: usize) {
-    require(rt, found.len() == count, wanted);
-    require(rt, wanted.as_bytes().starts_with(found), wanted);
+    let is_so = found.len() == count && wanted.as_bytes().starts_with(found);
+    require(rt, is_so, wanted);
 }
 
 /// The options of one worker or of two over this board.
@@ -100,6 +96,17 @@ pub(crate) fn request(options: Options, plain: bool) -> Check<'static> {
     }
 }
 
+/// Why the answer is so is asked for.
+pub(crate) fn why(options: Options) -> Why<'static> {
+    Why {
+        system: "s",
+        formula: "f",
+        options,
+        limit: 200,
+        strict: false,
+    }
+}
+
 /// What is claimed is so, or else the test tells the text.
 pub(crate) fn require(rt: &impl Abort, is_so: bool, text: &str)
     ensures { is_so ≡ true }
@@ -107,21 +114,9 @@ pub(crate) fn require(rt: &impl Abort, is_so: bool, text: &str)
     assert!(rt; is_so, "{text}");
 }
 
-/// What is claimed of a number is so, or else the test tells the text and the number.
-pub(crate) fn holds_of(rt: &impl Abort, is_so: bool, text: &str, number: u64)
-    ensures { is_so ≡ true }
-{
-    assert!(rt; is_so, "{text} {number}");
-}
-
 /// The system of a text.
 pub(crate) fn system(rt: &impl Host, text: &str) -> Lts {
     system_read(rt.alloc(), text).expect(rt, "a system")
-}
-
-/// A beginning, a part that stands so often, and an end.
-pub(crate) fn repeated(rt: &impl Host, head: &str, part: &str, times: usize, tail: &str) -> String {
-    repeated_text(rt.alloc(), head, part, times, tail).expect(rt, "memory")
 }
 
 /// The text of a ring of so many states.

@@ -31,14 +31,9 @@ fn is_refused<R: Read + Drop, S: Read + Drop>(rt: &impl Host, aut: R, formula: S
 }
 
 #[test]
-fn a_failed_read_has_the_code_of_its_text(rt: HostRuntime) {
+fn a_failed_read_has_the_code_of_its_text_whatever_its_kind(rt: HostRuntime) {
     is_refused(&rt, failing(RING), whole(FORMULA), "A8");
     is_refused(&rt, whole(RING), failing(FORMULA), "U3");
-    is_refused(&rt, failing(RING), failing(FORMULA), "A8");
-}
-
-#[test]
-fn a_failed_read_is_told_whatever_its_kind(rt: HostRuntime) {
     is_refused(&rt, Wanting, whole(FORMULA), "A8");
     is_refused(&rt, whole(RING), Wanting, "U3");
 }
@@ -52,19 +47,13 @@ fn is_whole<R: Read + Drop, S: Read + Drop>(rt: &impl Host, aut: R, formula: S, 
     is_text(rt, out.taken.as_slice(), report);
 }
 
+// A few bytes at a time are as good.
 #[test]
 fn interrupted_reads_and_writes_are_tried_again(rt: HostRuntime) {
     let mut out = Narrow::new(rt.alloc(), 5, AMPLE);
     out.interrupts = true;
-    let (system, formula) = (
-        Halting::whole(RING.as_bytes()),
-        Halting::whole(FORMULA.as_bytes()),
-    );
-    is_whole(&rt, system, formula, &mut out);
-}
-
-#[test]
-fn texts_may_come_a_few_bytes_at_a_time(rt: HostRuntime) {
-    let mut out = Narrow::new(rt.alloc(), 1, AMPLE);
-    is_whole(&rt, whole(RING), whole(FORMULA), &mut out);
+    let formula = Halting::whole(FORMULA.as_bytes());
+    is_whole(&rt, Halting::whole(RING.as_bytes()), formula, &mut out);
+    let mut slow = Narrow::new(rt.alloc(), 1, AMPLE);
+    is_whole(&rt, whole(RING), whole(FORMULA), &mut slow);
 }

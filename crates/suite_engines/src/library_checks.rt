@@ -1,9 +1,7 @@
 // Checks as a library offers them: by sets of states, by a game on one thread, and by workers over boards, with a gate and without. The texts were worked
-// out by hand; the least system without a packed board is computed from the definition. tests/answers asks the built program for more of them, and for
-// what is refused.
+// out by hand. tests/answers asks the built program for more of them, and for what is refused.
 
-use crate::common::{DEFAULTS, is_beginning, is_text, refuses_as, repeated, ring_of, says, team};
-use calculus::priorities::Priorities;
+use crate::common::{DEFAULTS, is_beginning, is_text, refuses_as, says, team};
 use engines::error::MuError;
 use engines::named::{check, check_gated, check_one, check_plain};
 use engines::request::{BoardKind, Options};
@@ -43,15 +41,9 @@ fn engines() -> [Engine; 3] {
 }
 
 /// A check that writes its report alone.
-fn report_by<W: Write>(
-    rt: &impl Host,
-    engine: Engine,
-    system: &str,
-    formula: &str,
-    out: &mut W,
-) -> Result<bool, MuError> {
+fn report_by<W: Write>(rt: &impl Host, engine: Engine, out: &mut W) -> Result<bool, MuError> {
     let (alloc, hasher) = (rt.alloc(), unseeded());
-    let (system, formula) = (system.as_bytes(), formula.as_bytes());
+    let (system, formula) = (RING.as_bytes(), FORMULA.as_bytes());
     let game: Option<&mut Vec<u8>> = None;
     let none: EvidenceWriters<'_, Vec<u8>, Vec<u8>> = EvidenceWriters::Neither;
     match engine {
@@ -64,33 +56,18 @@ fn report_by<W: Write>(
 }
 
 /// The engine reports so, and the answer has its status.
-fn is_reported(rt: &impl Host, engine: Engine, system: &str, formula: &str, report: &str) {
+fn is_reported(rt: &impl Host, engine: Engine) {
     let mut out = Vec::new(rt.alloc());
-    let answer = report_by(rt, engine, system, formula, &mut out);
+    let answer = report_by(rt, engine, &mut out);
     says(rt, "the report", &answer, true);
     holds!(rt; status(&answer) == 0);
-    is_text(rt, out.as_slice(), report);
+    is_text(rt, out.as_slice(), REPORT);
 }
 
 #[test]
 fn each_engine_reports(rt: HostRuntime) {
     for engine in engines() {
-        is_reported(&rt, engine, RING, FORMULA, REPORT);
-    }
-}
-
-/// An engine refuses so, and writes nothing.
-fn is_refused(rt: &impl Host, engine: Engine, system: &str, formula: &str, refusal: &str) {
-    let mut out = Vec::new(rt.alloc());
-    let answer = report_by(rt, engine, system, formula, &mut out);
-    refuses_as(rt, &answer, refusal);
-    holds!(rt; out.is_empty(), refusal);
-}
-
-#[test]
-fn each_engine_passes_refusals_on(rt: HostRuntime) {
-    for engine in engines() {
-        is_refused(&rt, engine, RING, "mu X. Y", "F5 at offset 6");
+        is_reported(&rt, engine);
     }
 }
 
@@ -102,92 +79,19 @@ fn is_cut(rt: &impl Host, engine: Engine, room: usize) {
     } else {
         AtEnd::TakesNothing
     };
-    let answer = report_by(rt, engine, RING, FORMULA, &mut out);
+    let answer = report_by(rt, engine, &mut out);
     holds!(rt; status(&answer) == 3);
     refuses_as(rt, &answer, "W1");
     is_beginning(rt, out.taken.as_slice(), REPORT, room);
 }
 
-fn are_cut(rt: &impl Host, engine: Engine) {
-    for room in 0..REPORT.len() {
-        is_cut(rt, engine, room);
-    }
-}
-
 #[test]
 fn a_write_fault_leaves_a_beginning(rt: HostRuntime) {
     for engine in engines() {
-        are_cut(&rt, engine);
+        for room in 0..REPORT.len() {
+            is_cut(&rt, engine, room);
+        }
     }
-}
-
-/// The report of a team on a ring of 200 states is that by sets of states.
-fn shows_no_team(rt: &impl Host, workers: u32, shards: u32, board: BoardKind) {
-    let (system, formula) = (ring_of(rt, 200), "[true*]<true*>(<a>true)");
-    let mut report = Vec::new(rt.alloc());
-    let answer = report_by(rt, Engine::Plain, system.as_str(), formula, &mut report);
-    says(rt, "by sets of states", &answer, true);
-    let report = String::from_utf8(report).expect(rt, "a text");
-    let options = options(workers, shards, board).expect(rt, "options");
-    is_reported(
-        rt,
-        Engine::Team(options),
-        system.as_str(),
-        formula,
-        report.as_str(),
-    );
-}
-
-/// The options of so many workers over this board, where they are within the limits.
-fn options(workers: u32, shards: u32, board: BoardKind) -> Option<Options> {
-    if workers < 1 || workers > 64 || shards < 1 || shards > 256 {
-        return None;
-    }
-    Some(Options {
-        priorities: Priorities::Nested,
-        workers,
-        shards,
-        board,
-    })
-}
-
-#[test]
-fn no_team_shows_in_a_report(rt: HostRuntime) {
-    shows_no_team(&rt, 8, 1, BoardKind::Locked);
-    shows_no_team(&rt, 8, 16, BoardKind::Packed);
-    shows_no_team(&rt, 64, 256, BoardKind::Auto);
-}
-
-/// 31 fixpoints in one another, each of a priority of its own. On n states there are n vertices of each odd priority from 3 to 31,
-/// and one more of priority 1, the false sink: the rank of top is 15 times the factor n + 1, and once n + 2.
-fn sixteen_counts(rt: &impl Host) -> String {
-    repeated(rt, "mu X. ", "nu X. mu X. ", 15, "true")
-}
-
-/// The answer by two workers over this board, if there is one.
-fn answer_over(rt: &impl Host, board: BoardKind, system: &str, formula: &str) -> Option<bool> {
-    let mut out = Vec::new(rt.alloc());
-    report_by(
-        rt,
-        Engine::Team(team(true, board)),
-        system,
-        formula,
-        &mut out,
-    )
-    .ok()
-}
-
-// 15 ^ 15 * 16 is above 2 ^ 62, and 14 ^ 15 * 15 is below.
-#[test]
-fn only_a_packed_board_that_can_t_be_had_is_refused(rt: HostRuntime) {
-    let (many, few, formula) = ("des (0,0,14)\n", "des (0,0,13)\n", sixteen_counts(&rt));
-    let packed = Engine::Team(team(true, BoardKind::Packed));
-    is_refused(&rt, packed, many, formula.as_str(), "T1");
-    let of_few = answer_over(&rt, BoardKind::Packed, few, formula.as_str());
-    holds!(&rt; of_few == Some(true));
-    let locked = answer_over(&rt, BoardKind::Locked, many, formula.as_str());
-    let any = answer_over(&rt, BoardKind::Auto, many, formula.as_str());
-    holds!(&rt; locked == Some(true) && any == Some(true));
 }
 
 /// The texts that a check writes beside its report. Their writers have the memory for all that is written here.
@@ -262,27 +166,6 @@ fn every_text_is_written(rt: HostRuntime) {
         true,
     );
     by_two.are(&rt, true);
-}
-
-/// Which texts are written is the caller's choice.
-#[test]
-fn the_game_may_be_written_alone(rt: HostRuntime) {
-    let mut texts = LibraryTexts::new(&rt);
-    let none: EvidenceWriters<'_, Narrow, Narrow> = EvidenceWriters::Neither;
-    let answer = check_one(
-        &rt,
-        rt.alloc(),
-        unseeded(),
-        RING.as_bytes(),
-        FORMULA.as_bytes(),
-        &DEFAULTS,
-        &mut texts.report,
-        Some(&mut texts.game),
-        none,
-    );
-    says(&rt, "the game", &answer, true);
-    is_text(&rt, texts.game.taken.as_slice(), OFTEN_A);
-    is_text(&rt, texts.report.taken.as_slice(), REPORT);
 }
 
 /// Two workers over this board write all texts, or there is no answer and nothing is written.

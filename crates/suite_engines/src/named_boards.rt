@@ -1,11 +1,11 @@
 // Where a board is named, its workers do all of the lifting, whatever is written, and nothing is searched for. On a ring of 200 states measures climb one by
 // one where the formula asks whether an action that one state alone has stays ahead.
 
-use crate::common::{request, ring_of, says, team, unwritten, wanted};
+use crate::common::{request, ring_of, says, team, unwritten, wanted, why};
 use engines::engine::check_asked;
 use engines::error::MuError;
 use engines::reasons::tell_why;
-use engines::request::{BoardKind, Options, Why};
+use engines::request::{BoardKind, Options};
 use samples::holds;
 use samples::host::Host;
 use samples::lifters::Lifters;
@@ -33,22 +33,14 @@ fn checked(
 }
 
 fn told(rt: &impl Host, options: Options, lifters: &Lifters) -> Result<bool, MuError> {
-    let why = Why {
-        system: "s",
-        formula: "f",
-        options,
-        limit: 200,
-        strict: false,
-    };
-    let (system, mut out) = (ring_of(rt, 200), Vec::new(rt.alloc()));
     tell_why(
         rt,
         rt.alloc(),
-        &why,
+        &why(options),
         unseeded(),
-        system.as_bytes(),
+        ring_of(rt, 200).as_bytes(),
         FORMULA,
-        &mut out,
+        &mut Vec::new(rt.alloc()),
         lifters,
     )
 }
@@ -66,13 +58,9 @@ fn do_all(rt: &impl Host, options: Options) {
 }
 
 #[test]
-fn workers_do_all_over_shards(rt: HostRuntime) {
-    do_all(&rt, team(false, BoardKind::Locked));
-    do_all(&rt, team(true, BoardKind::Locked));
-}
-
-#[test]
-fn workers_do_all_over_words(rt: HostRuntime) {
-    do_all(&rt, team(false, BoardKind::Packed));
-    do_all(&rt, team(true, BoardKind::Packed));
+fn workers_do_all_over_shards_and_over_words(rt: HostRuntime) {
+    for board in [BoardKind::Locked, BoardKind::Packed] {
+        do_all(&rt, team(false, board));
+        do_all(&rt, team(true, board));
+    }
 }

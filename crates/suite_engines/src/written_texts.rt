@@ -2,24 +2,22 @@
 
 use crate::common::{
     DEFAULTS, Narrows, have_the_report_alone, is_beginning, is_text, refuses_as, request, says,
-    system, unwritten,
+    system, unwritten, why,
 };
-use calculus::closed::Closed;
+use crate::stages::StageCounts;
 use engines::engine::check_asked;
 use engines::error::MuError;
 use engines::reasons::tell_why;
-use engines::request::{Check, ReportForm, Table, Wanted, Why, WitnessForm};
-use engines::watch::Watcher;
+use engines::request::{Check, ReportForm, Table, Wanted, WitnessForm};
 use engines::writers::Writers;
-use game::gauge::Gauge;
-use game::observer::{Observer, Silent, Stage};
-use lts::Lts;
+use game::observer::Silent;
 use samples::holds;
 use samples::host::Host;
 use samples::ring_games::{EVEN_OF_STEP, ODD_OF_STEP, STEP};
 use samples::texts::{RING, unseeded};
 use samples::writers::{AMPLE, AtEnd, Narrow};
-use std::sync::atomic::{AtomicU64, Ordering};
+use std::cmp::Ordering::{Equal, Greater, Less};
+use std::sync::atomic::Ordering;
 use table_lines::table::table_line;
 
 const ALL: Wanted = Wanted {
@@ -75,12 +73,10 @@ fn are_cut(rt: &impl Host, writers: &Narrows, number: usize, room: usize) {
     } = writers;
     let taken = [game, even, odd, witness, report];
     for at in 0..5 {
-        let count = if at < number {
-            TEXTS[at].len()
-        } else if at == number {
-            room
-        } else {
-            0
+        let count = match at.cmp(&number) {
+            Less => TEXTS[at].len(),
+            Equal => room,
+            Greater => 0,
         };
         is_beginning(rt, taken[at].taken.as_slice(), TEXTS[at], count);
     }
@@ -123,18 +119,11 @@ fn a_check_by_sets_of_states_writes_the_report_alone(rt: HostRuntime) {
 
 /// What is told of why the ring doesn't do `a` twice, into so much room.
 fn told(rt: &impl Host, out: &mut Narrow) -> Result<bool, MuError> {
-    let why = Why {
-        system: "s",
-        formula: "f",
-        options: DEFAULTS,
-        limit: 200,
-        strict: false,
-    };
     let (system, formula) = (RING.as_bytes(), b"<a><a>true".as_slice());
     tell_why(
         rt,
         rt.alloc(),
-        &why,
+        &why(DEFAULTS),
         unseeded(),
         system,
         formula,
@@ -156,29 +145,8 @@ fn reasons_are_told_as_far_as_there_is_room(rt: HostRuntime) {
     is_beginning(&rt, cut.taken.as_slice(), text, 46);
 }
 
-/// How many states the systems had together of which a watcher was told that they and a formula are read.
-#[derive(Drop)]
-struct StatesRead {
-    states: AtomicU64,
-}
-
-impl Observer for StatesRead {
-    fn sees(&self, _stage: Stage) {}
-
-    fn gauge(&self) -> Option<&Gauge> {
-        None
-    }
-}
-
-impl Watcher for StatesRead {
-    fn has_read(&self, system: &Lts, _formula: &Closed) {
-        let states = u64::from(system.states());
-        self.states.fetch_add(states, Ordering::SeqCst);
-    }
-}
-
 /// Writes a line of a strict table on the ring, of which this watcher is told.
-fn line_of(rt: &impl Host, formula: &str, out: &mut Narrow, watcher: &StatesRead) -> Option<u8> {
+fn line_of(rt: &impl Host, formula: &str, out: &mut Narrow, watcher: &StageCounts) -> Option<u8> {
     let system = system(rt, RING);
     let table = Table {
         system: "s",
@@ -195,9 +163,7 @@ fn line_of(rt: &impl Host, formula: &str, out: &mut Narrow, watcher: &StatesRead
 /// The line of a formula has so much room: this is written, with this status, and a watcher is told of so many states.
 fn tells(rt: &impl Host, formula: &str, room: usize, wanted: (&str, Option<u8>, u64)) {
     let (line, status, states) = wanted;
-    let told = StatesRead {
-        states: AtomicU64::new(0),
-    };
+    let told = StageCounts::new();
     let mut out = Narrow::new(rt.alloc(), 3, room);
     out.at_end = AtEnd::TakesNothing;
     holds!(rt; line_of(rt, formula, &mut out, &told) == status, formula);
@@ -210,16 +176,6 @@ fn tells(rt: &impl Host, formula: &str, room: usize, wanted: (&str, Option<u8>, 
 fn lines_of_tables_are_written_as_far_as_there_is_room(rt: HostRuntime) {
     tells(&rt, "<a>true", AMPLE, ("yes 1 of 2 f.mcf\n", Some(0), 2));
     tells(&rt, "<a>true", 10, ("yes 1 of 2", None, 2));
-    tells(
-        &rt,
-        "<c>true",
-        AMPLE,
-        ("L1 at offset 1 f.mcf\n", Some(2), 2),
-    );
-    tells(
-        &rt,
-        "<a>true && X",
-        AMPLE,
-        ("F5 at offset 11 f.mcf\n", Some(2), 0),
-    );
+    tells(&rt, "<c>true", 99, ("L1 at offset 1 f.mcf\n", Some(2), 2));
+    tells(&rt, "true && X", 99, ("F5 at offset 8 f.mcf\n", Some(2), 0));
 }

@@ -4,7 +4,7 @@
 ghost use Rattle.std.specs.Prelude.{◌<◌};
 
 use crate::common::holds_of;
-use crate::questions::{Question, roll_nested_question, roll_question};
+use crate::questions::{Question, roll_question};
 use arena_search::measures::least_measures;
 use arena_search::ranking::{GuessedRanking, ranking};
 use meaning::plain::plain_states;
@@ -42,110 +42,63 @@ fn is_good(rt: &impl Host, question: &Question, sheet: &Sheet) -> bool {
     }
 }
 
-// Whether a ranking of a question is found. If so, it is good.
+// A ranking of a question is found, and is good.
 fn is_ranked(rt: &impl Host, question: &Question) -> bool {
     match ranking(rt.alloc(), &question.lts, &question.form) {
         Some(found) => {
             let sheet = sheet_of(rt, found);
-            holds!(rt; is_good(rt, question, &sheet));
+            let is_good = is_good(rt, question, &sheet);
             drop(sheet);
-            true
+            is_good
         }
         None => false,
     }
 }
 
-// Whether measures of a question are found. If so, they are the least ones of both players.
+// Measures of a question are found, and are the least ones of both players.
 fn is_measured(rt: &impl Host, question: &Question) -> bool {
-    match least_measures(rt.alloc(), &question.lts, &question.form) {
-        Some(guess) => {
-            let proposals = proposals_of(guess);
-            holds!(rt; least_moves(rt.alloc(), &question.lts, &question.form, &proposals).is_some());
+    match proposed(rt, question) {
+        Some(proposals) => {
+            let is_good = !is_refused(rt, question, &proposals);
             drop(proposals);
-            true
+            is_good
         }
         None => false,
     }
 }
 
-// Of how many questions rankings are found, and of how many measures.
-#[derive(Clone, Copy)]
-struct GuessCounts {
-    ranked: u32,
-    measured: u32,
-}
-
-impl GuessCounts {
-    // One more question, which is let go.
-    fn ask(&mut self, rt: &impl Host, question: Question) {
-        if is_ranked(rt, &question) {
-            self.ranked = self.ranked.saturating_add(1);
-        }
-        if is_measured(rt, &question) {
-            self.measured = self.measured.saturating_add(1);
-        }
+// Both are found of so many questions, in whose formulas so many binders alternate at least.
+fn are_found(rt: &impl Host, seed: u32, questions: u32, least: u32)
+    requires { least < 6 }
+{
+    let mut dice = Dice::new(seed);
+    for number in 0..questions {
+        let question = roll_question(rt, &mut dice, least);
+        holds_of(rt, is_ranked(rt, &question), "ranked", u64::from(number));
+        holds_of(
+            rt,
+            is_measured(rt, &question),
+            "measured",
+            u64::from(number),
+        );
         drop(question);
     }
-
-    fn has_all(self, rt: &impl Abort, questions: u32) {
-        holds_of(
-            rt,
-            self.ranked >= questions,
-            "found",
-            u64::from(self.ranked),
-        );
-        holds_of(
-            rt,
-            self.measured >= questions,
-            "found",
-            u64::from(self.measured),
-        );
-    }
-}
-
-const NONE_YET: GuessCounts = GuessCounts {
-    ranked: 0,
-    measured: 0,
-};
-
-fn ask_any(rt: &impl Host, seed: u32) {
-    let mut dice = Dice::new(seed);
-    let mut tally = NONE_YET;
-    for _ in 0..QUESTIONS {
-        let states = 1 + dice.roll(12);
-        let question = roll_question(rt, &mut dice, states);
-        tally.ask(rt, question);
-    }
-    tally.has_all(rt, QUESTIONS);
 }
 
 #[test]
 fn rankings_and_measures_of_arenas_are_good(rt: HostRuntime) {
-    ask_any(&rt, 29);
+    are_found(&rt, 29, QUESTIONS, 0);
 }
 
 #[test]
 fn rankings_and_measures_of_more_arenas_are_good(rt: HostRuntime) {
-    ask_any(&rt, 32);
-}
-
-fn ask_nested(rt: &impl Host, seed: u32, questions: u32, least: u32)
-    requires { least < 6 }
-{
-    let mut dice = Dice::new(seed);
-    let mut tally = NONE_YET;
-    for _ in 0..questions {
-        let states = 1 + dice.roll(12);
-        let question = roll_nested_question(rt, &mut dice, states, least);
-        tally.ask(rt, question);
-    }
-    tally.has_all(rt, questions);
+    are_found(&rt, 32, QUESTIONS, 0);
 }
 
 #[test]
 fn rankings_and_measures_of_nested_formulas_are_good(rt: HostRuntime) {
-    ask_nested(&rt, 30, NESTED, 3);
-    ask_nested(&rt, 31, DEEP, 5);
+    are_found(&rt, 30, NESTED, 3);
+    are_found(&rt, 31, DEEP, 5);
 }
 
 // What is proposed for a question, if its measures are found.
@@ -192,12 +145,17 @@ fn make_wrong(proposals: &mut Proposals, v: u32, how: WrongMeasure) {
     }
 }
 
+// Whether proposals are no good ones for a question.
+fn is_refused(rt: &impl Host, question: &Question, proposals: &Proposals) -> bool {
+    least_moves(rt.alloc(), &question.lts, &question.form, proposals).is_none()
+}
+
 // Proposals of a question are refused once the number of a vertex was made wrong.
-fn is_refused(rt: &impl Host, question: &Question, dice: &mut Dice, how: WrongMeasure) {
+fn is_refused_so(rt: &impl Host, question: &Question, dice: &mut Dice, how: WrongMeasure) {
     if let Some(mut proposals) = proposed(rt, question) {
         let v = 2 + dice.roll(proposals.vertices.saturating_sub(2).max(1));
         make_wrong(&mut proposals, v, how);
-        holds!(rt; least_moves(rt.alloc(), &question.lts, &question.form, &proposals).is_none());
+        holds!(rt; is_refused(rt, question, &proposals));
         drop(proposals);
     }
 }
@@ -207,10 +165,9 @@ fn is_refused(rt: &impl Host, question: &Question, dice: &mut Dice, how: WrongMe
 fn wrong_measures_are_refused(rt: HostRuntime) {
     let mut dice = Dice::new(33);
     for _ in 0..WRONG {
-        let states = 1 + dice.roll(12);
-        let question = roll_nested_question(&rt, &mut dice, states, 1);
+        let question = roll_question(&rt, &mut dice, 1);
         for how in [WrongMeasure::Winner, WrongMeasure::More, WrongMeasure::Less] {
-            is_refused(&rt, &question, &mut dice, how);
+            is_refused_so(&rt, &question, &mut dice, how);
         }
         drop(question);
     }
@@ -233,9 +190,9 @@ fn needs_heights(rt: &impl Host, question: &Question) -> bool {
     match proposed(rt, question) {
         Some(mut proposals) => {
             drop_heights(&mut proposals);
-            let moves = least_moves(rt.alloc(), &question.lts, &question.form, &proposals);
+            let is_refused = is_refused(rt, question, &proposals);
             drop(proposals);
-            moves.is_none()
+            is_refused
         }
         None => false,
     }
@@ -247,8 +204,7 @@ fn heights_are_needed(rt: HostRuntime) {
     let mut dice = Dice::new(34);
     let mut needed = 0_u32;
     for _ in 0..WRONG {
-        let states = 1 + dice.roll(12);
-        let question = roll_nested_question(&rt, &mut dice, states, 3);
+        let question = roll_question(&rt, &mut dice, 3);
         needed = needed.saturating_add(u32::from(needs_heights(&rt, &question)));
         drop(question);
     }

@@ -1,16 +1,11 @@
 // What the tests of several topics use. A value is made by a call and lent to whatever claims something of it. One that has many lists is given to
 // `drop` where it ends, which lets all of them go in one step of a proof.
 
-ghost use Rattle.std.specs.Prelude.{◌≡◌, true, ◌≤◌};
-ghost use Rattle.calculus.specs.Normal.{normal_nodes};
-ghost use Rattle.game.specs.Arena.{arena};
-ghost use Rattle.game.specs.Game.{greatest};
+ghost use Rattle.std.specs.Prelude.{◌≡◌, true};
 
 use calculus::closed::Closed;
 use calculus::form::Normal;
-use calculus::limits::GREATEST_PRIORITY;
 use evidence::decide::certified_winners;
-use game::build::build;
 use game::graph::Game;
 use lts::Lts;
 use measures::settle::{even_wins, solve_one};
@@ -19,18 +14,6 @@ use normal::make::normal;
 use samples::host::Host;
 use samples::texts::{parsed_formula, system_read};
 use std::process::Abort;
-
-/// The text of a system begins with so many steps and states.
-pub(crate) fn system_head(rt: &impl Host, steps: u32, states: u32) -> String {
-    format!(in rt.alloc(); "des (0,{steps},{states})\n").expect(rt, "memory")
-}
-
-/// The text of a system of so many steps and states.
-pub(crate) fn system_text(rt: &impl Host, steps: u32, states: u32, rows: &str) -> String {
-    let mut text = system_head(rt, steps, states);
-    push_text(rt, &mut text, rows);
-    text
-}
 
 /// The vertices that Even wins, by evidence that is guessed and that the checker accepts.
 pub(crate) fn certified(rt: &impl Host, game: &Game) -> Vec<bool> {
@@ -57,7 +40,7 @@ fn are_marks(game: &Game, settled: &Settled, marks: &[bool]) -> bool
 
 /// Whether lifting says of all vertices what the marks say.
 pub(crate) fn is_lifted(rt: &impl Host, game: &Game, marks: &[bool]) -> bool {
-    let settled = solved(rt, game);
+    let settled = solve_one(rt.alloc(), game).expect(rt, "memory");
     let is_lifted = are_marks(game, &settled, marks);
     drop(settled);
     is_lifted
@@ -92,27 +75,7 @@ pub(crate) fn normal_form(rt: &impl Host, formula: &Closed) -> Normal {
     normal(rt.alloc(), formula).expect(rt, "a normal form")
 }
 
-/// The least progress table of a game.
-pub(crate) fn solved(rt: &impl Host, game: &Game) -> Settled
-    ensures { result.game ≡ game.now }
-{
-    solve_one(rt.alloc(), game).expect(rt, "memory")
-}
-
 /// A text gets this at its end.
 pub(crate) fn push_text(rt: &impl Abort, text: &mut String, part: &str) {
     text.push_str(part).expect(rt, "memory");
-}
-
-/// The text of a system gets one more step.
-pub(crate) fn push_step(rt: &impl Abort, text: &mut String, source: u32, label: &str, target: u32) {
-    write!(text, "({source},\"{label}\",{target})\n").expect(rt, "memory");
-}
-
-/// The game of a system and a normal form.
-pub(crate) fn game(rt: &impl Host, system: &Lts, form: &Normal) -> Game
-    ensures game { result ≡ arena system.now.system (normal_nodes form.now) }
-    ensures low { greatest result ≤ GREATEST_PRIORITY }
-{
-    build(rt, rt.alloc(), system, form).expect(rt, "a game")
 }

@@ -27,28 +27,15 @@ struct RandomGameLimits {
     steps: u32,
 }
 
-static SHAPES: [RandomGameLimits; 4] = [
+static SHAPES: [(u32, u32, u32); 4] = [(8, 8, 4), (12, 4, 2), (12, 33, 3), (40, 12, 2)];
+
+fn shape(vertices: u32, priorities: u32, steps: u32) -> RandomGameLimits {
     RandomGameLimits {
-        vertices: 8,
-        priorities: 8,
-        steps: 4,
-    },
-    RandomGameLimits {
-        vertices: 12,
-        priorities: 4,
-        steps: 2,
-    },
-    RandomGameLimits {
-        vertices: 12,
-        priorities: 33,
-        steps: 3,
-    },
-    RandomGameLimits {
-        vertices: 40,
-        priorities: 12,
-        steps: 2,
-    },
-];
+        vertices,
+        priorities,
+        steps,
+    }
+}
 
 // How many vertices Even wins.
 fn evens(rt: &impl Host, game: &Game) -> usize {
@@ -65,33 +52,19 @@ fn is_won(rt: &impl Host, game: &Game, number: u32) {
     drop(marks);
 }
 
-// Vertices among so many, ascending.
-fn rolled(rt: &impl Host, dice: &mut Dice, vertices: u32, steps: u32) -> Vec<u32>
-    requires { 0 < vertices }
-{
-    let mut row = Vec::new(rt.alloc());
-    for _ in 0..steps {
-        row.push(dice.roll(vertices)).expect(rt, "memory");
-    }
-    row.sort_unstable();
-    row.dedup();
-    row
-}
-
+// A vertex that leads to some among so many.
 fn push_rolled(rt: &impl Host, builder: &mut GameBuilder, dice: &mut Dice, shape: RandomGameLimits)
     requires some { (0 < shape.vertices) × (0 < shape.steps) }
     requires few { (0 < shape.priorities) × (shape.priorities ≤ 33) }
 {
-    let steps = 1 + dice.roll(shape.steps);
-    let row = rolled(rt, dice, shape.vertices, steps);
-    let priority = dice.roll(shape.priorities) as u8;
-    push(
-        rt,
-        builder,
-        owner_of(dice.roll(2)),
-        priority,
-        row.as_slice(),
-    );
+    let mut row = Vec::new(rt.alloc());
+    for _ in 0..1 + dice.roll(shape.steps) {
+        row.push(dice.roll(shape.vertices)).expect(rt, "memory");
+    }
+    row.sort_unstable();
+    row.dedup();
+    let (priority, owner) = (dice.roll(shape.priorities) as u8, owner_of(dice.roll(2)));
+    push(rt, builder, owner, priority, row.as_slice());
     drop(row);
 }
 
@@ -118,19 +91,14 @@ fn are_won(rt: &impl Host, dice: &mut Dice, shape: RandomGameLimits) {
 #[test]
 fn games_at_random_are_won(rt: HostRuntime) {
     let mut dice = Dice::new(7);
-    for shape in &SHAPES {
-        are_won(&rt, &mut dice, *shape);
+    for (vertices, priorities, steps) in &SHAPES {
+        are_won(&rt, &mut dice, shape(*vertices, *priorities, *steps));
     }
 }
 
 #[test]
 fn a_gauge_shows_how_far_a_guess_has_come(rt: HostRuntime) {
-    let shape = RandomGameLimits {
-        vertices: 70_000,
-        priorities: 10,
-        steps: 3,
-    };
-    let game = rolled_game(&rt, &mut Dice::new(11), shape);
+    let game = rolled_game(&rt, &mut Dice::new(11), shape(70_000, 10, 3));
     let gauge = Gauge::new();
     let marks = certified_winners(rt.alloc(), &game, Some(&gauge)).expect(&rt, "marks");
     holds!(&rt; gauge.reading().is_some_and(|reading| reading.done > 70_000));

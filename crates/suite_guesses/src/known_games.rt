@@ -77,98 +77,57 @@ pub(crate) fn finished(rt: &impl Abort, builder: GameBuilder) -> Game {
 
 // A ring of rungs: a vertex of Even with priority 0, and one of Odd with priority 1. From each the play goes on to one of the
 // two after it. So each player can stay at the own vertices, whose priority is good.
-fn push_rungs(rt: &impl Abort, builder: &mut GameBuilder, rungs: u32)
-    requires some { 1 < rungs }
-    requires few { rungs ≤ 1_000_000 }
-{
-    let vertices = 2 * rungs;
-    for v in 0..vertices {
-        let (near, far) = ((v + 1) % vertices, (v + 2) % vertices);
-        let next = [near.min(far), near.max(far)];
-        push(rt, builder, owner_of(v), (v % 2) as u8, &next);
-    }
-}
-
 fn ladder(rt: &impl Host, rungs: u32) -> Game
     requires some { 1 < rungs }
     requires few { rungs ≤ 1_000_000 }
 {
     let mut builder = GameBuilder::new(rt.alloc());
-    push_rungs(rt, &mut builder, rungs);
+    let vertices = 2 * rungs;
+    for v in 0..vertices {
+        let (near, far) = ((v + 1) % vertices, (v + 2) % vertices);
+        let next = [near.min(far), near.max(far)];
+        push(rt, &mut builder, owner_of(v), (v % 2) as u8, &next);
+    }
     finished(rt, builder)
 }
 
-fn is_ladder_lifted(rt: &impl Host, rungs: u32)
-    requires some { 1 < rungs }
-    requires few { rungs ≤ 1_000_000 }
-{
-    let game = ladder(rt, rungs);
-    holds_of(
-        rt,
-        is_certified(rt, &game, EvenWins::Own, true),
-        "at",
-        u64::from(rungs),
-    );
+// The winners of a game whose size is this are those, and lifting says the same, where it is asked.
+fn are_won(rt: &impl Host, game: Game, wins: EvenWins, lifts: bool, size: u32) {
+    let is_won = is_certified(rt, &game, wins, lifts);
+    holds_of(rt, is_won, "at", u64::from(size));
     drop(game);
 }
 
 #[test]
 fn on_a_ladder_each_wins_the_own_vertices(rt: HostRuntime) {
     for rungs in 2..40 {
-        is_ladder_lifted(&rt, rungs);
+        are_won(&rt, ladder(&rt, rungs), EvenWins::Own, true, rungs);
     }
-    let game = ladder(&rt, 50_000);
-    holds!(&rt; is_certified(&rt, &game, EvenWins::Own, false));
-    drop(game);
+    are_won(&rt, ladder(&rt, 50_000), EvenWins::Own, false, 50_000);
 }
 
-// All vertices of so many but one, by their numbers.
-fn push_others(rt: &impl Abort, others: &mut Vec<u32>, vertices: u32, v: u32) {
-    others.clear();
+// A vertex that has its number as priority, and leads to all others of so many.
+fn push_member(rt: &impl Host, builder: &mut GameBuilder, vertices: u32, v: u32)
+    requires { v < 256 }
+{
+    let mut others = Vec::new(rt.alloc());
     for t in 0..vertices {
         if t != v {
             others.push(t).expect(rt, "memory");
         }
     }
-}
-
-// A vertex that has its number as priority, and leads to all others.
-fn push_member(rt: &impl Host, builder: &mut GameBuilder, vertices: u32, v: u32)
-    requires { v < 256 }
-{
-    let mut others = Vec::new(rt.alloc());
-    push_others(rt, &mut others, vertices, v);
     push(rt, builder, owner_of(v), v as u8, others.as_slice());
     drop(others);
-}
-
-fn push_members(rt: &impl Host, builder: &mut GameBuilder, vertices: u32)
-    requires { vertices ≤ 33 }
-{
-    for v in 0..vertices {
-        push_member(rt, builder, vertices, v);
-    }
 }
 
 fn clique(rt: &impl Host, vertices: u32) -> Game
     requires { vertices ≤ 33 }
 {
     let mut builder = GameBuilder::new(rt.alloc());
-    push_members(rt, &mut builder, vertices);
+    for v in 0..vertices {
+        push_member(rt, &mut builder, vertices, v);
+    }
     finished(rt, builder)
-}
-
-fn is_clique_lifted(rt: &impl Host, vertices: u32, wins: EvenWins)
-    requires { vertices ≤ 33 }
-{
-    let game = clique(rt, vertices);
-    holds_of(
-        rt,
-        is_certified(rt, &game, wins, true),
-        "at",
-        u64::from(vertices),
-    );
-    drop(game);
 }
 
 // Of two vertices the play meets both. Of three, Odd has one and must leave it, and Even goes between her two. Of more, each
@@ -181,33 +140,21 @@ fn in_a_clique_who_has_two_vertices_wins_them(rt: HostRuntime) {
             3 => EvenWins::All,
             _ => EvenWins::Own,
         };
-        is_clique_lifted(&rt, vertices, wins);
+        are_won(&rt, clique(&rt, vertices), wins, true, vertices);
     }
 }
 
-// So many vertices of a priority, each leading to the one before. The answer is the number of the last.
-fn push_way(
-    rt: &impl Abort,
-    builder: &mut GameBuilder,
-    priority: u8,
-    width: u32,
-    before: u32,
-) -> u32 {
-    let mut last = before;
-    for _ in 0..width {
-        push(rt, builder, owner_of(last), priority, &[last]);
-        last = last.wrapping_add(1);
-    }
-    last
-}
-
-// A way of rows, from the greatest priority down. The answer is the number of its last vertex.
+// A way of rows, from the greatest priority down, each of so many vertices of one priority that lead to the one before. The answer is the number of its last
+// vertex.
 fn push_ways(rt: &impl Abort, builder: &mut GameBuilder, rows: u8, width: u32) -> u32
     requires { rows < 16 }
 {
     let mut last = 0_u32;
     for row in (0..rows).rev() {
-        last = push_way(rt, builder, 2 * row + 1, width, last);
+        for _ in 0..width {
+            push(rt, builder, owner_of(last), 2 * row + 1, &[last]);
+            last = last.wrapping_add(1);
+        }
     }
     last
 }
@@ -217,37 +164,26 @@ fn push_ways(rt: &impl Abort, builder: &mut GameBuilder, rows: u8, width: u32) -
 // goes either to the beginning of the way or to a vertex of priority 1 that leads back. So the winner at the way's end wins
 // everywhere: Even has to leave the round at some time. Lifting alone goes round it once for each measure below the one at
 // the beginning of the way.
-fn push_climb(rt: &impl Abort, builder: &mut GameBuilder, rows: u8, width: u32, winner: Player)
+fn climb(rt: &impl Host, rows: u8, width: u32, is_evens: bool) -> Game
     requires { rows < 16 }
 {
-    let end = match winner {
-        Player::Even => 2 * rows,
-        Player::Odd => 2 * rows + 1,
-    };
-    push(rt, builder, Player::Odd, end, &[0]);
-    let last = push_ways(rt, builder, rows, width);
-    let round = last.wrapping_add(1);
-    push(rt, builder, Player::Even, 0, &[last, round.wrapping_add(1)]);
-    push(rt, builder, Player::Odd, 1, &[round]);
-}
-
-fn climb(rt: &impl Host, rows: u8, width: u32, winner: Player) -> Game {
-    holds!(rt; rows < 16);
     let mut builder = GameBuilder::new(rt.alloc());
-    push_climb(rt, &mut builder, rows, width, winner);
+    let end = if is_evens { 2 * rows } else { 2 * rows + 1 };
+    push(rt, &mut builder, Player::Odd, end, &[0]);
+    let last = push_ways(rt, &mut builder, rows, width);
+    let round = last.wrapping_add(1);
+    let back = round.wrapping_add(1);
+    push(rt, &mut builder, Player::Even, 0, &[last, back]);
+    push(rt, &mut builder, Player::Odd, 1, &[round]);
     finished(rt, builder)
 }
 
-// The winner wins all vertices of a climb.
-fn is_climb_won(rt: &impl Host, rows: u8, width: u32, winner: Player, lifts: bool) {
-    let wins = match winner {
-        Player::Even => EvenWins::All,
-        Player::Odd => EvenWins::None,
-    };
-    let game = climb(rt, rows, width, winner);
-    let is_won = is_certified(rt, &game, wins, lifts);
-    holds_of(rt, is_won, "width", u64::from(width));
-    drop(game);
+// The winner at the end wins all vertices of a climb.
+fn climbs_are_won(rt: &impl Host, rows: u8, width: u32, lifts: bool) {
+    holds!(rt; rows < 16);
+    for (is_evens, wins) in [(true, EvenWins::All), (false, EvenWins::None)] {
+        are_won(rt, climb(rt, rows, width, is_evens), wins, lifts, width);
+    }
 }
 
 // Rows, and how many vertices each has.
@@ -256,8 +192,7 @@ static SMALL: [(u8, u32); 4] = [(1, 50), (2, 12), (3, 6), (4, 3)];
 #[test]
 fn who_wins_at_the_end_of_a_way_wins_the_climb(rt: HostRuntime) {
     for (rows, width) in &SMALL {
-        is_climb_won(&rt, *rows, *width, Player::Even, true);
-        is_climb_won(&rt, *rows, *width, Player::Odd, true);
+        climbs_are_won(&rt, *rows, *width, true);
     }
 }
 
@@ -267,7 +202,6 @@ static LARGE: [(u8, u32); 3] = [(4, 100), (4, 20_000), (15, 1_000)];
 #[test]
 fn large_climbs_are_won_by_good_evidence(rt: HostRuntime) {
     for (rows, width) in &LARGE {
-        is_climb_won(&rt, *rows, *width, Player::Even, false);
-        is_climb_won(&rt, *rows, *width, Player::Odd, false);
+        climbs_are_won(&rt, *rows, *width, false);
     }
 }

@@ -3,10 +3,9 @@
 ghost use Rattle.std.specs.Prelude.{◌<◌, ◌≤◌};
 
 use crate::common;
-use crate::common::{push_step, push_text, system_text};
+use crate::common::push_text;
 use calculus::closed::Closed;
 use calculus::form::Normal;
-use game::graph::Game;
 use lts::Lts;
 use samples::dice::Dice;
 use samples::host::Host;
@@ -15,14 +14,11 @@ use std::process::Abort;
 // The labels of the systems: formulas name the first two.
 static LABELS: [&str; 3] = ["a", "b", "c"];
 
-// Variables by the depth of their binders.
-static VARIABLES: [&str; 4] = ["W", "X", "Y", "Z"];
+// Variables by the depth of their binders. Leaves have those of the first four.
+static NAMES: [&str; 6] = ["W", "X", "Y", "Z", "S", "T"];
 
 // How many operands a body has beside the variables of all binders.
 const MORE: u32 = 2;
-
-// Variables by the depth of their binders, where these alternate: leaves have those of the first four.
-static NAMES: [&str; 6] = ["W", "X", "Y", "Z", "S", "T"];
 
 // Closed operands, which are solved before what is around them.
 static CLOSED: [&str; 6] = [
@@ -34,46 +30,32 @@ static CLOSED: [&str; 6] = [
     "(mu V. nu U. ([a]V && [!a]U))",
 ];
 
-// What stands before an operand, and how many parentheses it opens. Binders stand first, an action and a junction last.
+// Actions, each with a parenthesis that it opens.
 static HEADS: [&str; 5] = ["[a](", "<true>(", "[!a](", "<b>(", "[a|b]("];
 
-// So many steps from a state, to any of so many.
-fn roll_steps(
-    rt: &impl Abort,
-    dice: &mut Dice,
-    rows: &mut String,
-    source: u32,
-    steps: u32,
-    states: u32,
-)
-    requires { 0 < states }
-{
-    for _ in 0..steps {
-        let label = LABELS[dice.roll(3) as usize];
-        push_step(rt, rows, source, label, dice.roll(states));
-    }
-}
-
-// The steps from each state. The answer is how many there are.
+// The steps from each state: to any, some to the same. The answer is how many there are.
 fn roll_rows(rt: &impl Abort, dice: &mut Dice, rows: &mut String, states: u32) -> u32
     requires { 0 < states }
 {
     let mut count = 0_u32;
     for source in 0..states {
-        let steps = dice.roll(4);
-        roll_steps(rt, dice, rows, source, steps, states);
-        count = count.saturating_add(steps);
+        for _ in 0..dice.roll(4) {
+            let (label, target) = (LABELS[dice.roll(3) as usize], dice.roll(states));
+            write!(rows, "({source},\"{label}\",{target})\n").expect(rt, "memory");
+            count = count.saturating_add(1);
+        }
     }
     count
 }
 
 // A system with so many states: some have no steps, some several to the same state, some one to themselves.
-fn roll_system(rt: &impl Host, dice: &mut Dice, states: u32) -> String
+fn roll_system(rt: &impl Host, dice: &mut Dice, states: u32) -> Lts
     requires { 0 < states }
 {
     let mut rows = String::new(rt.alloc());
     let count = roll_rows(rt, dice, &mut rows, states);
-    system_text(rt, count, states, &rows)
+    let text = format!(in rt.alloc(); "des (0,{count},{states})\n{rows}").expect(rt, "memory");
+    common::system(rt, &text)
 }
 
 // A variable in scope, where there is one, or else something closed.
@@ -84,143 +66,70 @@ fn roll_leaf(rt: &impl Abort, dice: &mut Dice, text: &mut String, binders: u32) 
         push_text(rt, text, CLOSED[dice.roll(6) as usize]);
     } else if dice.roll(2) == 0 {
         push_text(rt, text, HEADS[dice.roll(5) as usize]);
-        push_text(rt, text, VARIABLES[variable as usize]);
+        push_text(rt, text, NAMES[variable as usize]);
         push_text(rt, text, ")");
     } else {
-        push_text(rt, text, VARIABLES[variable as usize]);
+        push_text(rt, text, NAMES[variable as usize]);
     }
 }
 
-// How many parentheses and binders are open.
-#[derive(Clone, Copy)]
-struct OpenBrackets {
-    parentheses: u32,
-    binders: u32,
-}
-
-impl OpenBrackets {
-    // So many more of each are open.
-    fn and(self, parentheses: u32, binders: u32) -> OpenBrackets {
-        OpenBrackets {
-            parentheses: self.parentheses.saturating_add(parentheses),
-            binders: self.binders.saturating_add(binders),
-        }
-    }
-}
-
-// One more binder.
-fn roll_binder(rt: &impl Abort, dice: &mut Dice, text: &mut String, binders: u32)
-    requires { binders < 4 }
+// A binder at this depth, with the parenthesis that it opens.
+fn push_binder(rt: &impl Abort, text: &mut String, is_least: bool, binders: u32)
+    requires { binders < 6 }
 {
-    push_text(rt, text, if dice.roll(2) == 0 { "mu " } else { "nu " });
-    push_text(rt, text, VARIABLES[binders as usize]);
+    push_text(rt, text, if is_least { "mu " } else { "nu " });
+    push_text(rt, text, NAMES[binders as usize]);
     push_text(rt, text, ". (");
 }
 
-// One more junction, with its first operand.
-fn roll_operand(rt: &impl Abort, dice: &mut Dice, text: &mut String, binders: u32) {
-    push_text(rt, text, "(");
-    roll_leaf(rt, dice, text, binders);
-    push_text(rt, text, if dice.roll(2) == 0 { " && (" } else { " || (" });
-}
-
-// One more binder, action or junction.
-fn roll_head(
-    rt: &impl Abort,
-    dice: &mut Dice,
-    text: &mut String,
-    open: OpenBrackets,
-) -> OpenBrackets {
-    match dice.roll(6) {
-        0 | 1 if open.binders < 4 => {
-            roll_binder(rt, dice, text, open.binders);
-            open.and(1, 1)
-        }
-        2 | 3 => {
-            push_text(rt, text, HEADS[dice.roll(5) as usize]);
-            open.and(1, 0)
-        }
-        _ => {
-            roll_operand(rt, dice, text, open.binders);
-            open.and(2, 0)
-        }
-    }
-}
-
-// So many heads. The answer is what they leave open.
-fn roll_heads(rt: &impl Abort, dice: &mut Dice, text: &mut String, heads: u32) -> OpenBrackets {
-    let mut open = OpenBrackets {
-        parentheses: 0,
-        binders: 0,
-    };
-    for _ in 0..heads {
-        open = roll_head(rt, dice, text, open);
-    }
-    open
-}
-
-// Closes so many parentheses.
-fn push_ends(rt: &impl Abort, text: &mut String, parentheses: u32) {
-    for _ in 0..parentheses {
-        push_text(rt, text, ")");
-    }
-}
-
-// A closed formula.
-fn roll_formula(rt: &impl Host, dice: &mut Dice) -> String {
-    let mut text = String::new(rt.alloc());
-    let heads = 4 + dice.roll(8);
-    let open = roll_heads(rt, dice, &mut text, heads);
-    roll_leaf(rt, dice, &mut text, open.binders);
-    push_ends(rt, &mut text, open.parentheses);
-    text
-}
-
-/// A system, a formula with its normal form, and their game.
-#[derive(Drop)]
-pub(crate) struct Question {
-    pub(crate) lts: Lts,
-    pub(crate) formula: Closed,
-    pub(crate) form: Normal,
-    pub(crate) game: Game,
-}
-
-pub(crate) fn roll_question(rt: &impl Host, dice: &mut Dice, states: u32) -> Question
-    requires { 0 < states }
-{
-    let system = roll_system(rt, dice, states);
-    let text = roll_formula(rt, dice);
-    let question = question_of(rt, &system, &text);
-    drop(text);
-    drop(system);
-    question
-}
-
-// The question of these texts.
-fn question_of(rt: &impl Host, system: &str, text: &str) -> Question {
-    let lts = common::system(rt, system);
-    let formula = common::formula(rt, text);
-    let form = common::normal_form(rt, &formula);
-    let game = common::game(rt, &lts, &form);
-    Question {
-        lts,
-        formula,
-        form,
-        game,
-    }
-}
-
-// What stands between an operand and the next, which is in parentheses.
+// What stands between an operand in parentheses and the next.
 fn roll_junction(rt: &impl Abort, dice: &mut Dice, text: &mut String) {
     let is_and = dice.roll(2) == 0;
     push_text(rt, text, if is_and { ") && (" } else { ") || (" });
+}
+
+// One more operand, and what stands behind it.
+fn roll_operand(rt: &impl Abort, dice: &mut Dice, text: &mut String, binders: u32) {
+    push_text(rt, text, "((");
+    roll_leaf(rt, dice, text, binders);
+    roll_junction(rt, dice, text);
+}
+
+// One more binder, action or junction. The answer is how many parentheses and binders it opens.
+fn roll_head(rt: &impl Abort, dice: &mut Dice, text: &mut String, binders: u32) -> (u32, u32) {
+    match dice.roll(6) {
+        0 | 1 if binders < 4 => {
+            push_binder(rt, text, dice.roll(2) == 0, binders);
+            (1, 1)
+        }
+        2 | 3 => {
+            push_text(rt, text, HEADS[dice.roll(5) as usize]);
+            (1, 0)
+        }
+        _ => {
+            roll_operand(rt, dice, text, binders);
+            (2, 0)
+        }
+    }
+}
+
+// Any closed formula, but for its last parentheses. The answer is how many these are.
+fn roll_any(rt: &impl Abort, dice: &mut Dice, text: &mut String) -> u32 {
+    let (mut parentheses, mut binders) = (0_u32, 0_u32);
+    for _ in 0..4 + dice.roll(8) {
+        let more = roll_head(rt, dice, text, binders);
+        parentheses = parentheses.saturating_add(more.0);
+        binders = binders.saturating_add(more.1);
+    }
+    roll_leaf(rt, dice, text, binders);
+    parentheses
 }
 
 // A variable, mostly behind an action, and the junction after it.
 fn roll_variable(rt: &impl Abort, dice: &mut Dice, text: &mut String, variable: u32)
     requires { variable < 6 }
 {
-    push_text(rt, text, "(");
+    push_text(rt, text, "((");
     if dice.roll(4) == 0 {
         push_text(rt, text, "(");
     } else {
@@ -231,64 +140,56 @@ fn roll_variable(rt: &impl Abort, dice: &mut Dice, text: &mut String, variable: 
     roll_junction(rt, dice, text);
 }
 
-// So many binders that alternate, the first by a number that is even or odd.
-fn push_binders(rt: &impl Abort, text: &mut String, first: u32, binders: u32)
+// So many binders that alternate, around the variables of all of them and some operands. The answer is how many parentheses are open.
+fn roll_nested(rt: &impl Abort, dice: &mut Dice, text: &mut String, binders: u32) -> u32
     requires { binders ≤ 6 }
 {
+    let first = dice.roll(2);
     for binder in 0..binders {
-        let is_least = first.wrapping_add(binder) % 2 == 0;
-        push_text(rt, text, if is_least { "mu " } else { "nu " });
-        push_text(rt, text, NAMES[binder as usize]);
-        push_text(rt, text, ". (");
+        push_binder(rt, text, (first + binder) % 2 == 0, binder);
     }
-}
-
-// The variables of so many binders.
-fn roll_variables(rt: &impl Abort, dice: &mut Dice, text: &mut String, binders: u32)
-    requires { binders ≤ 6 }
-{
     for binder in 0..binders {
         roll_variable(rt, dice, text, binder);
     }
-}
-
-// Some operands, and the last one.
-fn roll_operands(rt: &impl Abort, dice: &mut Dice, text: &mut String, binders: u32) {
     for _ in 0..MORE {
-        push_text(rt, text, "(");
-        roll_leaf(rt, dice, text, binders);
-        roll_junction(rt, dice, text);
+        roll_operand(rt, dice, text, binders);
     }
     roll_leaf(rt, dice, text, binders);
+    binders + 2 * (binders + MORE)
 }
 
-// So many binders that alternate, or one more, around the variables of all of them and some operands.
-fn roll_nested(rt: &impl Host, dice: &mut Dice, least: u32) -> String
+// A formula: so many binders that alternate or one more, or any formula where none is asked for.
+fn roll_formula(rt: &impl Host, dice: &mut Dice, least: u32) -> Closed
     requires { least < 6 }
 {
-    let binders = least + dice.roll(2);
-    let first = dice.roll(2);
     let mut text = String::new(rt.alloc());
-    push_binders(rt, &mut text, first, binders);
-    roll_variables(rt, dice, &mut text, binders);
-    roll_operands(rt, dice, &mut text, binders);
-    push_ends(rt, &mut text, 2 * binders + MORE);
-    text
+    let parentheses = if least == 0 {
+        roll_any(rt, dice, &mut text)
+    } else {
+        let binders = least + dice.roll(2);
+        roll_nested(rt, dice, &mut text, binders)
+    };
+    for _ in 0..parentheses {
+        push_text(rt, &mut text, ")");
+    }
+    common::formula(rt, &text)
 }
 
-pub(crate) fn roll_nested_question(
-    rt: &impl Host,
-    dice: &mut Dice,
-    states: u32,
-    least: u32,
-) -> Question
-    requires states { 0 < states }
-    requires binders { least < 6 }
+/// A system, and a formula with its normal form.
+#[derive(Drop)]
+pub(crate) struct Question {
+    pub(crate) lts: Lts,
+    pub(crate) formula: Closed,
+    pub(crate) form: Normal,
+}
+
+/// A system of up to twelve states, and a formula: one in which so many binders alternate or one more, or any formula where none is asked for.
+pub(crate) fn roll_question(rt: &impl Host, dice: &mut Dice, least: u32) -> Question
+    requires { least < 6 }
 {
-    let system = roll_system(rt, dice, states);
-    let text = roll_nested(rt, dice, least);
-    let question = question_of(rt, &system, &text);
-    drop(text);
-    drop(system);
-    question
+    let states = 1 + dice.roll(12);
+    let lts = roll_system(rt, dice, states);
+    let formula = roll_formula(rt, dice, least);
+    let form = common::normal_form(rt, &formula);
+    Question { lts, formula, form }
 }

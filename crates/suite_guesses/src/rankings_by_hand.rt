@@ -1,14 +1,11 @@
 // Rankings of arenas, made by hand: which are good, and what they tell.
 
 use crate::common::{formula, normal_form, system};
-use calculus::form::Normal;
 use game::column::{Column, Columns, Marked};
-use lts::Lts;
 use rankings::sheet::Sheet;
 use rankings::winners::root_winners;
 use samples::holds;
 use samples::host::Host;
-use std::process::Abort;
 
 // From state 0 to state 1 by `a`; from there nothing goes on. State 2 leads to itself by `b`.
 const SYSTEM: &str = "des (0,2,3)\n(0,\"a\",1)\n(2,\"b\",2)\n";
@@ -32,53 +29,34 @@ fn list_of(rt: &impl Host, numbers: &[u32]) -> Vec<u32> {
     Vec::from_slice(rt.alloc(), numbers).expect(rt, "memory")
 }
 
-fn push_words(rt: &impl Host, words: &mut Vec<Vec<u64>>, row: &[u64]) {
-    let row = Vec::from_slice(rt.alloc(), row).expect(rt, "memory");
-    words.push(row).expect(rt, "memory");
-}
-
-// The words of each node's column.
-fn push_rows(rt: &impl Host, words: &mut Vec<Vec<u64>>, rows: WrittenColumns) {
-    for row in rows {
-        push_words(rt, words, row.as_slice());
-    }
-}
-
 // No list.
 const NONE: u32 = u32::MAX;
 
-// So many columns, each of which is a list of its own.
-fn push_listed(rt: &impl Abort, nodes: &mut Vec<Column>, count: usize) {
-    let mut words = 0_u32;
-    for _ in 0..count {
+// Columns, each of which is a list of its own.
+fn columns_of(rt: &impl Host, rows: WrittenColumns) -> Columns {
+    let mut nodes = Vec::new(rt.alloc());
+    let mut words = Vec::new(rt.alloc());
+    let mut place = 0_u32;
+    for row in rows {
         let column = Column::Won(Marked {
             marks: 0,
             even: 0,
             odd: 0,
             unit: 0,
             counts: NONE,
-            words,
+            words: place,
         });
         nodes.push(column).expect(rt, "memory");
-        words = words.wrapping_add(1);
+        let row = Vec::from_slice(rt.alloc(), row.as_slice()).expect(rt, "memory");
+        words.push(row).expect(rt, "memory");
+        place = place.wrapping_add(1);
     }
-}
-
-fn columns_of(rt: &impl Host, rows: WrittenColumns) -> Columns {
-    let mut nodes = Vec::new(rt.alloc());
-    let mut words = Vec::new(rt.alloc());
-    push_listed(rt, &mut nodes, rows.len());
-    push_rows(rt, &mut words, rows);
     Columns {
         nodes,
         marks: Vec::new(rt.alloc()),
         counts: Vec::new(rt.alloc()),
         words,
     }
-}
-
-fn winners(rt: &impl Host, lts: &Lts, form: &Normal, sheet: &Sheet) -> Option<Vec<bool>> {
-    root_winners(rt, rt.alloc(), lts, form, sheet, 1)
 }
 
 // Whether marks are as they are found.
@@ -95,7 +73,7 @@ fn tells(rt: &impl Host, text: &str, sheet: &Sheet, found: &WinningStates) -> bo
     let lts = system(rt, SYSTEM);
     let formula = formula(rt, text);
     let form = normal_form(rt, &formula);
-    let marks = winners(rt, &lts, &form, sheet);
+    let marks = root_winners(rt, rt.alloc(), &lts, &form, sheet, 1);
     drop(form);
     drop(formula);
     drop(lts);
@@ -204,48 +182,26 @@ fn fixpoints_that_only_go_on(rt: HostRuntime) {
 // A node's marks of the states that Odd wins, and the numbers of both players, with twos for what is counted.
 type NodeNumbers = (u64, u64, u64);
 
-fn marked(marks: u32, row: NodeNumbers) -> Marked {
-    let (_, even, odd) = row;
-    Marked {
-        marks,
-        even,
-        odd,
-        unit: 2,
-        counts: 0,
-        words: NONE,
-    }
-}
-
-// Nodes that are won as these rows say.
-fn push_won(rt: &impl Abort, nodes: &mut Vec<Column>, rows: &[NodeNumbers]) {
-    let mut place = 0_u32;
-    for row in rows {
-        let column = Column::Won(marked(place, *row));
-        nodes.push(column).expect(rt, "memory");
-        place = place.wrapping_add(1);
-    }
-}
-
-fn push_marks(rt: &impl Abort, marks: &mut Vec<u64>, rows: &[NodeNumbers]) {
-    for (odds, _, _) in rows {
-        marks.push(*odds).expect(rt, "memory");
-    }
-}
-
-// A list that counts one at the first state, none at the others.
-fn push_counts(rt: &impl Host, counts: &mut Vec<Vec<u32>>) {
-    let list = list_of(rt, &[1, 0, 0]);
-    counts.push(list).expect(rt, "memory");
-}
-
-// Columns that count by one list.
+// Columns that count by one list: one at the first state, none at the others.
 fn counted_columns(rt: &impl Host, rows: &[NodeNumbers]) -> Columns {
     let mut nodes = Vec::new(rt.alloc());
     let mut marks = Vec::new(rt.alloc());
     let mut counts = Vec::new(rt.alloc());
-    push_won(rt, &mut nodes, rows);
-    push_marks(rt, &mut marks, rows);
-    push_counts(rt, &mut counts);
+    let mut place = 0_u32;
+    for (odds, even, odd) in rows {
+        let column = Column::Won(Marked {
+            marks: place,
+            even: *even,
+            odd: *odd,
+            unit: 2,
+            counts: 0,
+            words: NONE,
+        });
+        nodes.push(column).expect(rt, "memory");
+        marks.push(*odds).expect(rt, "memory");
+        place = place.wrapping_add(1);
+    }
+    counts.push(list_of(rt, &[1, 0, 0])).expect(rt, "memory");
     Columns {
         nodes,
         marks,

@@ -1,34 +1,43 @@
-// Boards that workers share, by the worked example of one game.
+// Boards that workers share, and ranks of measures, by worked examples of two games.
 
-ghost use Rattle.std.specs.Prelude.{◌≡◌, ◌<◌, length};
+ghost use Rattle.std.specs.Prelude.{◌≡◌, ◌<◌, ◌≤◌, length};
 ghost use Rattle.std.specs.Arc.{arc_value};
+ghost use Rattle.tables.specs.Seats.{board_game, IsSeatOf};
 
-use crate::common::{board_of_shards, finished, settled, shared_game};
+use crate::common::{STEP, board_of_shards, board_of_words, finished, settled, shared_game};
+use crate::progress_measures::{LEAST, is_as_wanted, nested_binders_game};
 use game::graph::Game;
 use game::name::GameName;
-use game::player::Player;
 use measures::measure::Measure;
+use measures::progs::is_measure;
+use measures::rank::{of_rank, rank, top_rank};
 use measures::table::PlainTable;
-use samples::games::GameRow;
 use samples::holds;
 use samples::host::Host;
 use std::alloc::Global;
 use std::marker::Brand;
 use std::process::Abort;
 use std::sync::Arc;
+use std::thread::map_indices;
 use tables::board::Board;
-use tables::shard::Shard;
+use tables::packed::{PackedBoard, PackedSeat};
 
-// The game of `<a>true` on two states, of which the first leads to the second by a, and the second to the first by b. Vertex 4
-// leads to the false sink alone.
-static DIAMOND: [GameRow; 6] = [
-    (Player::Even, 0, &[0]),
-    (Player::Even, 1, &[1]),
-    (Player::Even, 0, &[5]),
-    (Player::Even, 0, &[0]),
-    (Player::Even, 0, &[1]),
-    (Player::Even, 0, &[0]),
-];
+// How often one thread looks for what another does.
+const TURNS: u32 = 10_000_000;
+
+// In the game of a step vertex 4 leads to the false sink alone.
+fn step(rt: &impl Host) -> Arc<Game, Global>
+    ensures { 4 < length (arc_value result).vertices }
+{
+    let game = shared_game(rt, &STEP);
+    holds!(rt; 4 < game.vertices());
+    game
+}
+
+// A measure that asks for nothing.
+fn is_low(rt: &impl Abort, m: &Measure) {
+    holds!(rt; !m.is_top() && m.counts() == [0].as_slice());
+}
 
 // A seat reads a vertex, raises it to top, and raises it once more.
 fn rises_once<B: Board>(rt: &impl Abort, board: &B, source: &PlainTable)
@@ -46,86 +55,150 @@ fn rises_once<B: Board>(rt: &impl Abort, board: &B, source: &PlainTable)
     holds!(rt; !board.raise(&mut seat, 4, &top), "it rises once");
 }
 
-/// A seat reads a vertex, raises it to what it has in the settled table, and raises it once more.
-pub(crate) fn rises_to_the_settled<B: Board>(rt: &impl Host, board: &B, game: &Game)
-    requires same { game.now ≡ B.game board.now }
-    requires vertex { 4 < length game.now.vertices }
-{
-    let source = settled(rt, game);
-    rises_once(rt, board, &source);
-}
-
-/// The vertex has risen in what the board is finished into.
-pub(crate) fn is_finished<B: Board>(rt: &impl Host, board: B, game: &Game)
+// A seat raises a vertex to what it has in the settled table; then what the board is finished into.
+fn rises_on<B: Board>(rt: &impl Host, board: B, game: &Game)
     requires same { game.now ≡ B.game board }
     requires vertex { 4 < length game.now.vertices }
 {
+    let source = settled(rt, game);
+    rises_once(rt, &board, &source);
     let table = finished(rt, board, game);
     holds!(rt; table.value(4).is_top() && !table.value(2).is_top());
 }
 
-// A measure that asks for nothing.
-fn is_low(rt: &impl Abort, m: &Measure) {
-    holds!(rt; !m.is_top() && m.counts() == [0].as_slice());
-}
-
-// A seat over so many shards raises a vertex to what it has in the settled table; then what the board is finished into.
-fn rises_on<K: GameName, R: Host>(rt: &R, game: &Arc<Game, Global>, shards: u32)
+fn rises_on_shards<K: GameName, R: Host>(rt: &R, game: &Arc<Game, Global>)
     requires named { arc_value game.now ≡ K.game }
     requires vertex { 4 < length (arc_value game.now).vertices }
-    requires shards { 0 < shards }
 {
-    let board = board_of_shards::<K, R>(rt, game, shards);
-    rises_to_the_settled(rt, &board, game);
-    is_finished(rt, board, game);
-}
-
-// A shard of every second vertex keeps the greater of two measures, and tells whether its own rose.
-fn keeps_the_greater<K: GameName>(rt: &impl Abort, shard: &mut Shard<K>, source: &PlainTable)
-    requires same { source.now.game ≡ K.game }
-    requires vertex { 4 < length source.now.game.vertices }
-{
-    holds!(rt; shard.has(4) && !shard.has(3));
-    let top = source.value(4);
-    let low = shard.read(4);
-    holds!(rt; top.is_top() && !low.is_top());
-    holds!(rt; shard.raise(4, &top), "it rises");
-    holds!(rt; !shard.raise(4, &low), "it doesn't fall");
-    holds!(rt; shard.read(4).is_top());
-}
-
-fn is_kept<K: GameName>(rt: &impl Host, game: &Game)
-    requires named { game.now ≡ K.game }
-    requires vertex { 4 < length game.now.vertices }
-{
-    let mut shard = Shard::<K>::new(rt.alloc(), game, 0, 2).expect(rt, "memory");
-    let source = settled(rt, game);
-    keeps_the_greater(rt, &mut shard, &source);
-}
-
-/// The game has the vertices that are asked for.
-pub(crate) fn diamond(rt: &impl Host) -> Arc<Game, Global>
-    ensures { 4 < length (arc_value result).vertices }
-{
-    let game = shared_game(rt, &DIAMOND);
-    holds!(rt; 4 < game.vertices());
-    game
+    let board = board_of_shards::<K, R>(rt, game, 16);
+    rises_on(rt, board, game);
 }
 
 #[test]
-fn a_shard_keeps_the_greater(rt: HostRuntime) {
-    let game = diamond(&rt);
-    is_kept::<Brand>(&rt, &game)
+fn a_vertex_rises_once_on_either_board(rt: HostRuntime) {
+    let game = step(&rt);
+    let words = board_of_words(&rt, &game, 1);
+    rises_on(&rt, words, &game);
+    rises_on_shards::<Brand, HostRuntime>(&rt, &game)
+}
+
+// The rank is the number of the lesser measures, here below twelve; top has the last one.
+#[test]
+fn a_measure_has_a_rank(rt: HostRuntime) {
+    let game = nested_binders_game(&rt);
+    let m = Measure::of_counts(&[2, 0]);
+    holds!(&rt; is_measure(&game, &m));
+    let Some(top) = top_rank(&game) else {
+        panic!(&rt; "no rank")
+    };
+    holds!(&rt; rank(&game, &m) == 8 && top == 12);
+    holds!(&rt; 8 < top);
+    holds!(&rt; of_rank(&game, 8).counts() == [2, 0].as_slice() && of_rank(&game, top).is_top());
+}
+
+fn new_seat(rt: &impl Abort, board: &PackedBoard) -> PackedSeat
+    ensures { IsSeatOf board.now result }
+{
+    board.new_seat().expect(rt, "a seat")
+}
+
+// A vertex rises by its first lift, and by no other.
+fn is_lifted_once(rt: &impl Abort, board: &PackedBoard, seat: &mut PackedSeat)
+    requires seat { IsSeatOf board.now seat.old }
+    requires vertex { 4 < length (board_game board.now).vertices }
+    ensures { IsSeatOf board.now seat.new }
+{
+    is_low(rt, &board.load(seat, 4));
+    holds!(rt; board.lift(seat, 4), "it rises");
+    holds!(rt; board.load(seat, 4).is_top());
+    holds!(rt; !board.lift(seat, 4), "it rises once");
 }
 
 #[test]
-fn a_vertex_rises_on_one_shard(rt: HostRuntime) {
-    let game = diamond(&rt);
-    rises_on::<Brand, HostRuntime>(&rt, &game, 1)
+fn a_vertex_is_lifted_once(rt: HostRuntime) {
+    let game = step(&rt);
+    let board = board_of_words(&rt, &game, 1);
+    let mut seat = new_seat(&rt, &board);
+    is_lifted_once(&rt, &board, &mut seat);
+    let table = board.close(rt.alloc(), seat).expect(&rt, "a table");
+    holds!(&rt; table.value(4).is_top());
+}
+
+// One thread lifts a vertex, and the other looks at it until it is top.
+fn lifts_or_looks(board: &PackedBoard, thread: usize) -> bool
+    requires { 4 < length (board_game board.now).vertices }
+{
+    let Some(mut seat) = board.new_seat() else {
+        return false;
+    };
+    if thread == 0 {
+        return board.lift(&mut seat, 4);
+    }
+    for _ in 0..TURNS {
+        if board.load(&mut seat, 4).is_top() {
+            return true;
+        }
+    }
+    false
+}
+
+fn is_seen_by_another(rt: &impl Host, board: &PackedBoard)
+    requires { 4 < length (board_game board.now).vertices }
+{
+    let seen = map_indices(
+        rt,
+        rt.alloc(),
+        2,
+        &|thread: usize|
+            requires { 4 < length (board_game board.now).vertices }
+        { lifts_or_looks(board, thread) },
+    )
+    .expect(rt, "memory");
+    holds!(rt; !seen.contains(&false), "what one lifts another sees");
 }
 
 #[test]
-fn a_vertex_rises_on_sixteen_shards(rt: HostRuntime) {
-    let game = diamond(&rt);
-    rises_on::<Brand, HostRuntime>(&rt, &game, 16)
+fn what_one_seat_lifts_another_sees(rt: HostRuntime) {
+    let game = step(&rt);
+    let board = board_of_words(&rt, &game, 2);
+    is_seen_by_another(&rt, &board);
+}
+
+// A seat settles the board, and then loads the least measures.
+fn settles_least(board: &PackedBoard) -> bool
+    requires { 18 ≤ length (board_game board.now).vertices }
+{
+    let Some(mut seat) = board.new_seat() else {
+        return false;
+    };
+    board.settle_seat(&mut seat);
+    for v in 0..18u32 {
+        if !is_as_wanted(&board.load(&mut seat, v), &LEAST[v as usize]) {
+            return false;
+        }
+    }
+    true
+}
+
+fn settles_at_once(rt: &impl Host, board: &PackedBoard)
+    requires { 18 ≤ length (board_game board.now).vertices }
+{
+    let least = map_indices(
+        rt,
+        rt.alloc(),
+        2,
+        &|_thread: usize|
+            requires { 18 ≤ length (board_game board.now).vertices }
+        { settles_least(board) },
+    )
+    .expect(rt, "memory");
+    holds!(rt; !least.contains(&false), "both settle the board");
+}
+
+#[test]
+fn two_seats_settle_at_once(rt: HostRuntime) {
+    let game = Arc::new(rt.alloc(), nested_binders_game(&rt)).expect(&rt, "memory");
+    holds!(&rt; 18 <= game.vertices());
+    let board = board_of_words(&rt, &game, 2);
+    settles_at_once(&rt, &board);
 }

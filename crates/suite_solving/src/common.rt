@@ -7,6 +7,7 @@ ghost use Rattle.tables.specs.Seats.{board_game};
 
 use game::graph::Game;
 use game::name::GameName;
+use game::player::Player;
 use measures::settle::{settle, solve_one};
 use measures::table::{PlainTable, Settled, opening};
 use samples::dice::{Dice, roll_game};
@@ -18,6 +19,28 @@ use std::sync::Arc;
 use tables::board::Board;
 use tables::locked::LockedBoard;
 use tables::packed::PackedBoard;
+
+/// The game of `<a>true` on two states, of which the first leads to the second by a, and the second to the first by b.
+pub(crate) static STEP: [GameRow; 6] = [
+    (Player::Even, 0, &[0]),
+    (Player::Even, 1, &[1]),
+    (Player::Even, 0, &[5]),
+    (Player::Even, 0, &[0]),
+    (Player::Even, 0, &[1]),
+    (Player::Even, 0, &[0]),
+];
+
+/// The game of `<a><a>true` on them.
+pub(crate) static TWO_STEPS: [GameRow; 8] = [
+    (Player::Even, 0, &[0]),
+    (Player::Even, 1, &[1]),
+    (Player::Even, 0, &[6]),
+    (Player::Even, 0, &[7]),
+    (Player::Even, 0, &[0]),
+    (Player::Even, 0, &[1]),
+    (Player::Even, 0, &[1]),
+    (Player::Even, 0, &[0]),
+];
 
 /// The game of these vertices, to be shared.
 pub(crate) fn shared_game(rt: &impl Host, rows: &[GameRow]) -> Arc<Game, Global> {

@@ -16,8 +16,6 @@ mod many_workers;
 #[cfg(test)]
 mod observers;
 #[cfg(test)]
-mod packed_boards;
-#[cfg(test)]
 mod progress_measures;
 #[cfg(test)]
 mod random_schedules;

@@ -23,28 +23,6 @@ use tables::error::TableError;
 use workers::gate::Gate;
 use workers::solving::solve;
 
-// A ring on which Odd wins: its greatest priority is odd. Each vertex rises many times before it is top.
-static ODD_RING: [GameRow; 8] = [
-    (Player::Even, 1, &[1]),
-    (Player::Odd, 0, &[2]),
-    (Player::Even, 1, &[3]),
-    (Player::Odd, 0, &[4]),
-    (Player::Even, 1, &[5]),
-    (Player::Odd, 0, &[6]),
-    (Player::Even, 1, &[7]),
-    (Player::Odd, 0, &[0]),
-];
-
-// A way that Even leaves at its end, where she wins: on it the measures stay below top.
-static WAY: [GameRow; 6] = [
-    (Player::Even, 1, &[1]),
-    (Player::Odd, 1, &[2]),
-    (Player::Even, 1, &[0, 3]),
-    (Player::Odd, 1, &[4]),
-    (Player::Even, 2, &[4, 5]),
-    (Player::Even, 3, &[5]),
-];
-
 // Two rings of priority 1, and a way of six vertices of priority 3 to a loop of priority 4. Odd may go over from the first ring to
 // the second, but not back. Even wins all: she leaves the rings where she may, at 0 and at 8, and then there is only the way to
 // the loop. Yet she asks for less by staying until what the rings ask for has climbed past six threes: for each of them through
@@ -255,17 +233,10 @@ fn ends_well_on<B: Board + Drop + Sync>(
     requires board { B.game inner ≡ arc_value game.now }
     requires workers { 0 < workers }
 {
-    let notes = &new_notes(rt, game, workers);
+    let notes = &Notes::new(rt.alloc(), game.vertices(), workers).expect(rt, "memory");
     let board = NotingBoard { inner, game, notes };
     let solved = solve(rt, rt.alloc(), game, board, workers, notes).expect(rt, "memory");
     notes.ended_well(game) && is_least(rt, game, &solved)
-}
-
-// Nothing is noted yet of so many workers.
-fn new_notes(rt: &impl Host, game: &Game, workers: usize) -> Notes
-    requires { 0 < workers }
-{
-    Notes::new(rt.alloc(), game.vertices(), workers).expect(rt, "memory")
 }
 
 // Whether they do over shards under locks.
@@ -309,19 +280,11 @@ pub(crate) fn is_left(rt: &impl Host, game: &Game) -> bool {
     !is_settled(game, &first)
 }
 
-// Any workers leave nothing to lift of the game of these vertices, whose opening table leaves something.
-fn leave_nothing(rt: &impl Host, rows: &[GameRow]) {
-    let game = shared_game(rt, rows);
-    holds!(rt; is_left(rt, &game));
-    all_end_well_over_shards(rt, &game);
-    all_end_well_over_words(rt, &game);
-}
-
-// Settled is what no lift raises, which is looked up at each vertex. The opening table is settled of none of these games, so it is
-// the workers' doing.
+// Settled is what no lift raises, which is looked up at each vertex. The opening table isn't settled, so it is the workers' doing.
 #[test]
 fn workers_leave_nothing_to_lift(rt: HostRuntime) {
-    leave_nothing(&rt, &ODD_RING);
-    leave_nothing(&rt, &WAY);
-    leave_nothing(&rt, &TWO_RINGS);
+    let game = shared_game(&rt, &TWO_RINGS);
+    holds!(&rt; is_left(&rt, &game));
+    all_end_well_over_shards(&rt, &game);
+    all_end_well_over_words(&rt, &game);
 }

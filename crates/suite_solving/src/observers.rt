@@ -9,7 +9,6 @@ use samples::holds;
 use samples::host::Host;
 use samples::texts::ring;
 use std::alloc::Global;
-use std::process::Abort;
 use std::sync::Arc;
 use std::sync::atomic::{AtomicU64, Ordering};
 use workers::gate::NoGate;
@@ -21,16 +20,6 @@ struct LiftingCounts {
     vertices: AtomicU64,
     tellings: AtomicU64,
     lifts: AtomicU64,
-}
-
-impl LiftingCounts {
-    fn new() -> LiftingCounts {
-        LiftingCounts {
-            vertices: AtomicU64::new(0),
-            tellings: AtomicU64::new(0),
-            lifts: AtomicU64::new(0),
-        }
-    }
 }
 
 impl Observer for LiftingCounts {
@@ -56,38 +45,24 @@ fn game_of_the_ring(rt: &impl Host) -> Arc<Game, Global> {
     shared_arena_of(rt, system.as_str(), "nu X. mu Y. (<a>X || <b>Y)").expect(rt, "a game")
 }
 
-impl LiftingCounts {
-    /// Lifting was told of in a game with so many vertices.
-    fn has_vertices(&self, rt: &impl Abort, wanted: u64) {
-        holds!(rt; self.vertices.load(Ordering::SeqCst) == wanted);
-    }
-
-    /// So many lifts were told of at last, and they are some thousands.
-    fn last_lifts(&self, rt: &impl Abort, fewest: u64) -> u64 {
-        let lifts = self.lifts.load(Ordering::SeqCst);
-        holds_of(rt, lifts >= fewest && lifts % 4096 == 0, "lifts are", lifts);
-        lifts
-    }
-
-    /// Lifts were told of so often.
-    fn has_tellings(&self, rt: &impl Abort, wanted: u64) {
-        holds!(rt; self.tellings.load(Ordering::SeqCst) == wanted);
-    }
-}
-
 /// Each vertex is a job of some worker once at least, so of 17,502 lifts by two workers one at least tells of 4,096.
 fn tells_of_workers(rt: &impl Host, game: &Arc<Game, Global>, board: BoardKind) {
-    let tally = LiftingCounts::new();
+    let counts = LiftingCounts {
+        vertices: AtomicU64::new(0),
+        tellings: AtomicU64::new(0),
+        lifts: AtomicU64::new(0),
+    };
     let team = Team {
         workers: 2,
         shards: 16,
         board,
     };
-    holds!(rt; solve_by(rt, rt.alloc(), game, &team, &NoGate, &tally, None).is_ok());
-    tally.has_vertices(rt, 17502);
-    let lifts = tally.last_lifts(rt, 4096);
+    holds!(rt; solve_by(rt, rt.alloc(), game, &team, &NoGate, &counts, None).is_ok());
+    holds!(rt; counts.vertices.load(Ordering::SeqCst) == 17502);
+    let lifts = counts.lifts.load(Ordering::SeqCst);
+    holds_of(rt, lifts >= 4096 && lifts % 4096 == 0, "lifts are", lifts);
     // The first telling is of no lift, and then there is one for each 4,096.
-    tally.has_tellings(rt, 1 + lifts / 4096);
+    holds!(rt; counts.tellings.load(Ordering::SeqCst) == 1 + lifts / 4096);
 }
 
 #[test]

@@ -1,5 +1,4 @@
-// Progress measures and winners of small games, worked out by hand by Jurdziński 2000, for games where the greatest
-// priority counts.
+// Progress measures of a small game, worked out by hand by Jurdziński 2000, for games where the greatest priority counts.
 
 ghost use Rattle.std.specs.Prelude.{◌≡◌, ◌<◌, length};
 
@@ -8,7 +7,7 @@ use game::graph::Game;
 use game::player::Player;
 use measures::measure::Measure;
 use measures::progs::{is_measure, lift, prog};
-use measures::settle::{is_settled, settle};
+use measures::settle::even_wins;
 use measures::table::{PlainTable, Settled};
 use samples::games::GameRow;
 use samples::holds;
@@ -60,15 +59,6 @@ pub(crate) static LEAST: [Option<[u32; 2]>; 18] = [
     Some([0, 0]),
 ];
 
-// Vertices, measures, and what the vertices ask for where their play goes on at those.
-static PROGS: [(u32, [u32; 2], Option<[u32; 2]>); 5] = [
-    (2, [2, 0], None),
-    (4, [0, 3], Some([1, 0])),
-    (4, [2, 3], None),
-    (3, [1, 3], Some([1, 0])),
-    (5, [1, 3], Some([1, 3])),
-];
-
 pub(crate) fn nested_binders_game(rt: &impl Host) -> Game {
     game_by_hand(rt, &NESTED)
 }
@@ -80,40 +70,27 @@ pub(crate) fn is_as_wanted(m: &Measure, want: &Option<[u32; 2]>) -> bool {
     }
 }
 
-// A vertex has this measure in the table.
+// A vertex has this measure in the table, by which it is known who wins it.
 fn is_least_at(rt: &impl Abort, game: &Game, table: &Settled, v: u32, want: &Option<[u32; 2]>)
     requires { table.now.game ≡ game.now }
 {
     holds!(rt; v < game.vertices());
     holds_of(rt, is_as_wanted(&table.value(v), want), "at", u64::from(v));
-}
-
-fn are_least(rt: &impl Abort, game: &Game, table: &Settled)
-    requires { table.now.game ≡ game.now }
-{
-    for v in 0..18u32 {
-        is_least_at(rt, game, table, v, &LEAST[v as usize]);
-    }
+    holds_of(
+        rt,
+        even_wins(table, v) == want.is_some(),
+        "wins at",
+        u64::from(v),
+    );
 }
 
 #[test]
 fn finds_the_least_measures(rt: HostRuntime) {
     let game = nested_binders_game(&rt);
     let table = solved(&rt, &game);
-    are_least(&rt, &game, &table);
-}
-
-fn is_settled_later(rt: &impl Host, game: &Game) {
-    let mut table = opened(rt, game);
-    holds!(rt; !is_settled(game, &table));
-    settle(game, &mut table);
-    holds!(rt; is_settled(game, &table));
-}
-
-#[test]
-fn settles_the_opening_table(rt: HostRuntime) {
-    let game = nested_binders_game(&rt);
-    is_settled_later(&rt, &game);
+    for v in 0..18u32 {
+        is_least_at(&rt, &game, &table, v, &LEAST[v as usize]);
+    }
 }
 
 // A table is raised at one vertex, to what another has there.
@@ -126,57 +103,24 @@ fn rises(rt: &impl Abort, table: &mut PlainTable, source: &PlainTable)
     holds!(rt; is_as_wanted(&table.value(4), &Some([0, 0])));
 }
 
-// A table of a game is raised at one vertex.
-fn rises_of(rt: &impl Host, game: &Game, source: &PlainTable)
-    requires { source.now.game ≡ game.now }
-{
-    holds!(rt; 4 < game.vertices());
-    rises(rt, &mut opened(rt, game), source);
-}
-
 #[test]
 fn raises_one_vertex(rt: HostRuntime) {
     let game = nested_binders_game(&rt);
     let source = settled(&rt, &game);
-    rises_of(&rt, &game, &source);
+    holds!(&rt; 4 < game.vertices());
+    rises(&rt, &mut opened(&rt, &game), &source);
 }
 
-// A vertex asks for this where its play goes on at the measure, and is lifted to it.
-fn asks_for(rt: &impl Abort, game: &Game, v: u32, counts: &[u32; 2], want: &Option<[u32; 2]>) {
-    let m = Measure::of_counts(counts);
-    let at = u64::from(v);
-    holds!(rt; v < game.vertices());
-    holds!(rt; is_measure(game, &m));
-    holds_of(rt, is_as_wanted(&prog(game, v, &m), want), "at", at);
-    let lifted = lift(game, v, &Measure::of_counts(&[0, 0]), &[m]);
-    holds_of(rt, is_as_wanted(&lifted, want), "lifted at", at);
-}
-
+// Vertex 4 asks for what it has at least where its play goes on at that measure, which is below another; and it is lifted to it.
 #[test]
 fn asks_for_the_least(rt: HostRuntime) {
-    let game = nested_binders_game(&rt);
-    for (v, counts, want) in &PROGS {
-        asks_for(&rt, &game, *v, counts, want);
-    }
-}
-
-// The one measure is below the other, and both are below top.
-fn are_ordered(rt: &impl Abort, low: &Measure, high: &Measure) {
-    let top = Measure::top();
-    holds!(rt; low.is_below(high) && !high.copied().is_below(low));
-    holds!(rt; high.is_below(&top) && !top.is_below(high));
-}
-
-#[test]
-fn measures_are_ordered(rt: HostRuntime) {
-    are_ordered(
-        &rt,
-        &Measure::of_counts(&[0, 3]),
-        &Measure::of_counts(&[1, 0]),
-    );
-    are_ordered(
-        &rt,
-        &Measure::of_counts(&[1, 0]),
-        &Measure::of_counts(&[1, 3]),
-    );
+    let (game, want) = (nested_binders_game(&rt), Some([1, 0]));
+    let (m, more) = (Measure::of_counts(&[0, 3]), Measure::of_counts(&[1, 3]));
+    holds!(&rt; m.is_below(&more) && !more.copied().is_below(&m));
+    holds!(&rt; more.is_below(&Measure::top()));
+    holds!(&rt; 4 < game.vertices());
+    holds!(&rt; is_measure(&game, &m));
+    holds!(&rt; is_as_wanted(&prog(&game, 4, &m), &want));
+    let lifted = lift(&game, 4, &Measure::of_counts(&[0, 0]), &[m]);
+    holds!(&rt; is_as_wanted(&lifted, &want));
 }

@@ -3,15 +3,14 @@
 
 ghost use Rattle.std.specs.Prelude.{◌≡◌, ◌<◌};
 
-use crate::common::{game_by_hand, holds_of, rolled_game, solved};
-use crate::schedules::{STEP_ROWS, TWO_STEPS, new_core};
+use crate::common::{STEP, TWO_STEPS, game_by_hand, holds_of, rolled_game, solved};
+use crate::schedules::new_core;
 use game::graph::Game;
 use liftcore::event::{Event, Outcome};
 use liftcore::machine::Core;
 use measures::measure::Measure;
 use measures::table::Settled;
 use samples::dice::Dice;
-use samples::games::GameRow;
 use samples::holds;
 use samples::host::Host;
 use std::alloc::{AllocError, Global};
@@ -45,34 +44,22 @@ impl RunOutcomes {
     }
 
     fn holds(&self, worker: usize) -> Option<u32> {
-        match self.held.get(worker) {
-            Some(vertex) => *vertex,
-            None => None,
-        }
+        *self.held.get(worker)?
     }
 
+    /// Whether no vertex is pending, and no worker holds one or owes any.
     fn is_quiet(&self) -> bool {
-        self.is_idle() && self.owes_none() && !self.pending.contains(&true)
-    }
-
-    /// Whether no worker holds a vertex.
-    fn is_idle(&self) -> bool {
         for vertex in &self.held {
             if vertex.is_some() {
                 return false;
             }
         }
-        true
-    }
-
-    /// Whether no worker owes any.
-    fn owes_none(&self) -> bool {
         for count in &self.owed {
             if *count > 0 {
                 return false;
             }
         }
-        true
+        !self.pending.contains(&true)
     }
 
     /// Notes an event that was done; a raise has left its worker owing so many.
@@ -198,22 +185,12 @@ fn is_settled_at_the_least(rt: &impl Host, game: &Game, core: &Core<'_>) {
     holds!(rt; core.is_settled() || !core.is_quiet());
 }
 
-/// Nothing was told yet.
-fn untold(rt: &impl Host, game: &Game) -> RunOutcomes {
-    RunOutcomes::new(rt.alloc(), game.vertices()).expect(rt, "memory")
-}
-
-/// Replays events at random by a core that has done nothing yet.
-fn replay_noted(rt: &impl Host, dice: &mut Dice, game: &Game, told: &mut RunOutcomes) {
-    let mut core = new_core(rt, game, WORKERS);
-    follow_at_random(rt, dice, game, &mut core, told);
-    is_settled_at_the_least(rt, game, &core);
-}
-
 /// Replays events at random from the start.
 fn replay_at_random(rt: &impl Host, dice: &mut Dice, game: &Game) {
-    let mut told = untold(rt, game);
-    replay_noted(rt, dice, game, &mut told);
+    let mut told = RunOutcomes::new(rt.alloc(), game.vertices()).expect(rt, "memory");
+    let mut core = new_core(rt, game, WORKERS);
+    follow_at_random(rt, dice, game, &mut core, &mut told);
+    is_settled_at_the_least(rt, game, &core);
 }
 
 fn replay_often(rt: &impl Host, dice: &mut Dice, game: &Game) {
@@ -222,16 +199,11 @@ fn replay_often(rt: &impl Host, dice: &mut Dice, game: &Game) {
     }
 }
 
-fn replay_rows(rt: &impl Host, dice: &mut Dice, rows: &[GameRow]) {
-    let game = game_by_hand(rt, rows);
-    replay_often(rt, dice, &game);
-}
-
 #[test]
 fn random_events_agree_with_their_outcomes(rt: HostRuntime) {
     let mut dice = Dice::new(6);
     let rolled = rolled_game(&rt, &mut dice, 12);
-    replay_rows(&rt, &mut dice, &STEP_ROWS);
-    replay_rows(&rt, &mut dice, &TWO_STEPS);
+    replay_often(&rt, &mut dice, &game_by_hand(&rt, &STEP));
+    replay_often(&rt, &mut dice, &game_by_hand(&rt, &TWO_STEPS));
     replay_often(&rt, &mut dice, &rolled);
 }

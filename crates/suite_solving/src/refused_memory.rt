@@ -43,35 +43,6 @@ fn is_solved_or_unbegun<B: Board + Drop + Sync>(
     }
 }
 
-/// Whether workers over words come to this table, or memory was refused and none of them had a turn.
-fn is_solved_over_words(
-    rt: &impl Host,
-    game: &Arc<Game, Global>,
-    workers: usize,
-    wanted: &Settled,
-) -> bool
-    requires workers { 0 < workers }
-    requires wanted { wanted.now.game ≡ arc_value game.now }
-{
-    let board = board_of_words(rt, game, 1);
-    is_solved_or_unbegun(rt, rt.alloc(), game, board, workers, wanted)
-}
-
-/// Whether workers over shards under locks come to this table, or memory was refused and none of them had a turn.
-fn is_solved_over_shards<K: GameName + Send + Sync, R: Host>(
-    rt: &R,
-    game: &Arc<Game, Global>,
-    workers: usize,
-    wanted: &Settled,
-) -> bool
-    requires named { arc_value game.now ≡ K.game }
-    requires workers { 0 < workers }
-    requires wanted { wanted.now.game ≡ arc_value game.now }
-{
-    let board = board_of_shards::<K, R>(rt, game, SHARDS);
-    is_solved_or_unbegun(rt, rt.alloc(), game, board, workers, wanted)
-}
-
 /// The game that asks on a ring of two states whether some path has `a` again and again.
 fn often_a(rt: &impl Host) -> Arc<Game, Global> {
     shared_arena_of(rt, RING, "nu X. mu Y. (<a>X || <b>Y)").expect(rt, "memory")
@@ -82,16 +53,30 @@ fn refuses_before_turns_over_words(rt: &impl Host, workers: usize)
 {
     let game = often_a(rt);
     let wanted = solved(rt, &game);
-    holds!(rt; is_solved_over_words(rt, &game, workers, &wanted));
+    let board = board_of_words(rt, &game, 1);
+    let is_so = is_solved_or_unbegun(rt, rt.alloc(), &game, board, workers, &wanted);
+    holds!(rt; is_so, "memory is refused before turns over words");
+}
+
+fn refuses_before_turns_on<K: GameName + Send + Sync, R: Host>(
+    rt: &R,
+    game: &Arc<Game, Global>,
+    workers: usize,
+)
+    requires workers { 0 < workers }
+    requires named { arc_value game.now ≡ K.game }
+{
+    let wanted = solved(rt, game);
+    let board = board_of_shards::<K, R>(rt, game, SHARDS);
+    let is_so = is_solved_or_unbegun(rt, rt.alloc(), game, board, workers, &wanted);
+    holds!(rt; is_so, "memory is refused before turns over shards");
 }
 
 fn refuses_before_turns_over_shards<R: Host>(rt: &R, workers: usize)
     requires { 0 < workers }
 {
     let game = often_a(rt);
-    let wanted = solved(rt, &game);
-    let is_so = is_solved_over_shards::<Brand, R>(rt, &game, workers, &wanted);
-    holds!(rt; is_so, "memory is refused before turns over shards");
+    refuses_before_turns_on::<Brand, R>(rt, &game, workers)
 }
 
 #[test]

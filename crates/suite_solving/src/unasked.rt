@@ -1,11 +1,9 @@
 // What takes no memory. Of two tests that stand side by side, as `x` and `x_and_y`, the first makes something, and the second makes it and uses it:
 // tests/refusals counts how often both request memory, which has to be the same. Where it is `x_with_y` the second may request it 199 times more.
 
-ghost use Rattle.std.specs.Prelude.{◌≡◌, ◌<◌, ◌≤◌, length};
-ghost use Rattle.game.specs.Game.{greatest};
+ghost use Rattle.std.specs.Prelude.{◌≡◌, ◌<◌, length};
 
-use crate::common::{game_by_hand, opened, settled};
-use crate::schedules::TWO_STEPS;
+use crate::common::{TWO_STEPS, game_by_hand, opened, settled};
 use evidence::evidence::Evidence;
 use evidence::reader::read_evidence;
 use evidence::verdict::{Both, Verdict};
@@ -15,7 +13,6 @@ use game::dual::{dual, greatest_priority};
 use game::graph::Game;
 use game::name::GameName;
 use lts::read_aut;
-use lts::system::Lts;
 use lts::writer::write_aut;
 use measures::settle::{is_settled, settle};
 use measures::table::PlainTable;
@@ -25,10 +22,7 @@ use samples::holds;
 use samples::host::Host;
 use samples::readers::SlowReader;
 use samples::texts::{RING, repeated_text, ring, system_read, unseeded};
-use std::alloc::Global;
 use std::marker::Brand;
-use std::process::Abort;
-use std::sync::Arc;
 use tables::shard::Shard;
 
 // A table of a game, which is settled or left as it is.
@@ -51,25 +45,14 @@ fn a_table_is_made_and_settled(rt: HostRuntime) {
     of_table(&rt, true)
 }
 
-// A shard of every second vertex, which is raised to top at one or left as it is.
+// A shard of every second vertex, which is raised at one to the settled table's top or left as it is.
 fn of_shard<K: GameName>(rt: &impl Host, game: &Game, source: &PlainTable, raises: bool)
     requires named { game.now ≡ K.game }
     requires same { source.now.game ≡ K.game }
     requires vertex { 2 < length source.now.game.vertices }
 {
     let mut shard = Shard::<K>::new(rt.alloc(), game, 0, 2).expect(rt, "memory");
-    rises_or_stays(rt, &mut shard, source, raises);
-}
-
-fn rises_or_stays<K: GameName>(
-    rt: &impl Abort,
-    shard: &mut Shard<K>,
-    source: &PlainTable,
-    raises: bool,
-)
-    requires same { source.now.game ≡ K.game }
-    requires vertex { 2 < length source.now.game.vertices }
-{
+    holds!(rt; !shard.has(3));
     holds!(rt; shard.has(2));
     let top = source.value(2);
     holds!(rt; top.is_top() && !shard.read(2).is_top());
@@ -79,7 +62,7 @@ fn rises_or_stays<K: GameName>(
     }
 }
 
-// A shard of every second vertex of a game, which is raised to the settled table's top at one or left as it is.
+// Of a game.
 fn of_settled(rt: &impl Host, raises: bool) {
     let game = game_by_hand(rt, &TWO_STEPS);
     let source = settled(rt, &game);
@@ -104,28 +87,6 @@ const EVEN: &str = "evidence even\n0 1 (0)\n1 - (1)\n";
 
 const ODD: &str = "evidence odd\n";
 
-// Evidence of both players, which is checked or left as it is.
-fn of_evidence(rt: &impl Host, checks: bool) {
-    let game = game_read(rt, GAME.as_bytes());
-    of_pieces(rt, &game, checks);
-}
-
-fn of_pieces(rt: &impl Host, game: &Game, checks: bool) {
-    let even = evidence_read(rt, game, EVEN);
-    let odd = evidence_read(rt, game, ODD);
-    if checks {
-        are_good(rt, game, &even, &odd);
-    }
-}
-
-fn are_good(rt: &impl Abort, game: &Game, even: &Evidence, odd: &Evidence)
-    requires even { even.now.game ≡ game.now }
-    requires odd { odd.now.game ≡ game.now }
-{
-    holds!(rt; verify(game, even) == Verdict::Good);
-    holds!(rt; check_both(game, even, odd) == Both::Yes);
-}
-
 fn game_read(rt: &impl Host, text: &[u8]) -> Game {
     read_game(rt.alloc(), text).expect(rt, "a game")
 }
@@ -134,6 +95,17 @@ fn evidence_read(rt: &impl Host, game: &Game, text: &str) -> Evidence
     ensures { result.game ≡ game.now }
 {
     read_evidence(rt.alloc(), text.as_bytes(), game).expect(rt, "evidence")
+}
+
+// Evidence of both players, which is checked or left as it is.
+fn of_evidence(rt: &impl Host, checks: bool) {
+    let game = game_read(rt, GAME.as_bytes());
+    let even = evidence_read(rt, &game, EVEN);
+    let odd = evidence_read(rt, &game, ODD);
+    if checks {
+        holds!(rt; verify(&game, &even) == Verdict::Good);
+        holds!(rt; check_both(&game, &even, &odd) == Both::Yes);
+    }
 }
 
 #[test]
@@ -146,28 +118,19 @@ fn evidence_is_made_and_checked(rt: HostRuntime) {
     of_evidence(&rt, true)
 }
 
-// A system, a game and evidence, and room for their texts, which are written or not.
+// A system, a game and evidence, and room for their texts, which are written one behind another or not.
 fn of_texts(rt: &impl Host, writes: bool) {
     let system = system_read(rt.alloc(), RING).expect(rt, "a system");
     let game = game_read(rt, GAME.as_bytes());
-    of_system_and_game(rt, &system, &game, writes);
-}
-
-fn of_system_and_game(rt: &impl Host, system: &Lts, game: &Game, writes: bool) {
-    let even = evidence_read(rt, game, EVEN);
+    let even = evidence_read(rt, &game, EVEN);
     let mut out = Vec::with_capacity(rt.alloc(), 1_000).expect(rt, "memory");
     if writes {
-        write_texts(rt, system, game, &even, &mut out);
+        holds!(rt; write_aut(&system, &mut out).is_ok());
+        holds!(rt; write_game(&game, &mut out).is_ok());
+        holds!(rt; write_evidence(&even, &mut out).is_ok());
+        holds!(rt; out.len() == RING.len() + GAME.len() + EVEN.len());
+        holds!(rt; out.starts_with(RING.as_bytes()) && out.ends_with(EVEN.as_bytes()));
     }
-}
-
-// They are written one behind another.
-fn write_texts(rt: &impl Abort, system: &Lts, game: &Game, even: &Evidence, out: &mut Vec<u8>) {
-    holds!(rt; write_aut(system, out).is_ok());
-    holds!(rt; write_game(game, out).is_ok());
-    holds!(rt; write_evidence(even, out).is_ok());
-    holds!(rt; out.len() == RING.len() + GAME.len() + EVEN.len());
-    holds!(rt; out.starts_with(RING.as_bytes()) && out.ends_with(EVEN.as_bytes()));
 }
 
 #[test]
@@ -192,18 +155,9 @@ const AT_ONCE: usize = 1_000_000;
 
 // A text with many blanks and one without, of which one is read, some bytes at a time.
 fn of_system(rt: &impl Host, has_blanks: bool, step: usize) {
-    let blanks = blank_text(rt, BLANKS);
-    let none = blank_text(rt, 0);
+    let blanks = repeated_text(rt.alloc(), HEADER, " ", BLANKS, LINE).expect(rt, "memory");
+    let none = repeated_text(rt.alloc(), HEADER, " ", 0, LINE).expect(rt, "memory");
     let text = if has_blanks { &blanks } else { &none };
-    is_read(rt, text.as_str(), step)
-}
-
-// The text with so many blanks.
-fn blank_text(rt: &impl Host, blanks: usize) -> String {
-    repeated_text(rt.alloc(), HEADER, " ", blanks, LINE).expect(rt, "memory")
-}
-
-fn is_read(rt: &impl Host, text: &str, step: usize) {
     let reader = SlowReader::whole(text.as_bytes(), step);
     let system = read_aut(rt.alloc(), unseeded(), reader).expect(rt, "a system");
     holds!(rt; system.states() == 2 && system.all().len() == 1);
@@ -231,31 +185,19 @@ fn a_system_is_read_and_has_many_blanks_in_pieces(rt: HostRuntime) {
 
 // The text of a game of 25,002 vertices, which is read; and its dual, or not.
 fn of_game(rt: &impl Host, has_dual: bool) {
-    let arena = long_arena(rt);
-    let text = game_text(rt, &arena);
-    let game = game_read(rt, text.as_slice());
-    holds!(rt; game.vertices() == 25_002 && greatest_priority(&game) <= 31);
-    if has_dual {
-        dual_is_made(rt, &game);
-    }
-}
-
-fn long_arena(rt: &impl Host) -> Arc<Game, Global> {
     let system = ring(rt.alloc(), 2500).expect(rt, "memory");
-    shared_arena_of(rt, system.as_str(), "[true*]<true*>(<a>true)").expect(rt, "a game")
-}
-
-fn game_text(rt: &impl Host, game: &Game) -> Vec<u8> {
+    let arena = shared_arena_of(rt, system.as_str(), "[true*]<true*>(<a>true)").expect(
+        rt, "a game",
+    );
     let mut text = Vec::new(rt.alloc());
-    holds!(rt; write_game(game, &mut text).is_ok());
-    text
-}
-
-fn dual_is_made(rt: &impl Host, game: &Game)
-    requires { greatest game.now ≤ 31 }
-{
-    let dual = dual(rt.alloc(), game).expect(rt, "memory");
-    holds!(rt; dual.vertices() == 25_002);
+    holds!(rt; write_game(&arena, &mut text).is_ok());
+    let game = game_read(rt, text.as_slice());
+    holds!(rt; game.vertices() == 25_002);
+    holds!(rt; greatest_priority(&game) <= 31);
+    if has_dual {
+        let dual = dual(rt.alloc(), &game).expect(rt, "memory");
+        holds!(rt; dual.vertices() == 25_002);
+    }
 }
 
 #[test]

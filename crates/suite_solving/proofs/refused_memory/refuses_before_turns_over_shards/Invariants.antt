@@ -1,4 +1,4 @@
 use Rattle.suite_solving.proofs.refused_memory.refuses_before_turns_over_shards.Given as goal
 
-abbrev pub ghosts-is_solved_over_shards : goal.ghosts-is_solved_over_shards
-ghosts-is_solved_over_shards g a = record { game = a.game.now.value }
+abbrev pub ghosts-refuses_before_turns_on : goal.ghosts-refuses_before_turns_on
+ghosts-refuses_before_turns_on g a = record { game = a.game.now.value }
