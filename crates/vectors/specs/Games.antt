@@ -1,21 +1,25 @@
 -- Worked examples of arenas and of winning.
-use Rattle.std.specs.Prelude.{◌≡◌, ◌≢◌, ℕ, zero, suc, ◌%◌, ◌+◌, ◌*◌, ◌<◌, ◌≤◌, length, ◌⊎◌, Bool, List, [], ◌∷◌, Some, refl}
-use Rattle.std.specs.Prelude.{Contains, None, max, IsTrue, ◌==◌, ◌||◌, if◌then◌else◌}
+use Rattle.std.specs.Prelude.{◌≡◌, ℕ, ◌+◌, ◌*◌, ◌<◌, length, List, [], ◌∷◌, Option, Some, None, IsTrue, refl}
 use Rattle.std.specs.List.{AllByRecursion}
-use Rattle.std.proofs.Common.{arith, inl, inr, sym, ap, ap₂, subst, ◌∙◌}
-use Rattle.systems.specs.Path.{IsPath}
-use Rattle.std.proofs.lemmas.Bool.Decides.{nat_tests}
-use Rattle.vectors.specs.Systems.{two_states}
+use Rattle.std.proofs.Common.{arith, ap, subst}
+use Rattle.vectors.specs.Systems.{two_states, ◌&◌}
 use Rattle.calculus.specs.Tree.{Step, Dia, Box, True, False, Anything}
 use Rattle.vectors.specs.Formulas.{name_a, often_a}
 use Rattle.calculus.specs.Nodes.{nodes}
 use Rattle.game.specs.declared.player.Player.{Player}
 use Rattle.game.specs.declared.player.Player.TheVariants.{Even, Odd}
-use Rattle.game.specs.Game.{Game, IsAscending, IsGame, IsVertex, Vertex, dual, vertex}
+use Rattle.game.specs.Game.{Game, IsGame, Vertex, dual}
 use Rattle.game.specs.Refused.{HasBuildRefusal}
 use Rattle.game.specs.declared.error.BuildError.TheVariants.{TooManyVertices}
-use Rattle.game.specs.Wins.{Edge, IsOf, OddWins, Wins, priority_at, greatest_met}
+use Rattle.game.specs.Wins.{OddWins, Wins, WinsBy}
 use Rattle.game.specs.Arena.{arena}
+use Rattle.game.proofs.Tests.{vertices_from}
+use Rattle.measures.proofs.Lists.{all_or}
+use Rattle.evidence.specs.Evidence.{Entry, Evidence, IsEntry, has}
+use Rattle.evidence.specs.Verdict.{IsVerdict}
+use Rattle.evidence.specs.declared.verdict.Verdict.TheVariants.{Good}
+use Rattle.evidence.proofs.GoodWins.{good_wins}
+use Rattle.evidence.proofs.Tested.{judged, judged_right}
 
 abbrev pub vertex_at : ℕ → Player → List ℕ → Vertex
 vertex_at p o ss = record { owner = o; priority = p; successors = ss }
@@ -57,197 +61,50 @@ often_a_game = record {
 arena_often_a : arena two_states (nodes often_a) ≡ often_a_game
 arena_often_a = refl
 
--- a vertex of that game
-whole : (p : ℕ) (o : Player) (ss : List ℕ) → p ≤ 32 → 1 ≤ length ss → IsAscending ss → AllByRecursion (λ t. t < 16) ss → IsVertex 16 (vertex_at p o ss)
-whole p o ss priority some ascending within = record { priority = priority; some = some; ascending = ascending; within = within }
-
-one_next : (p t : ℕ) → p ≤ 32 → t < 16 → IsVertex 16 (vertex_at p Even (t ∷ []))
-one_next p t h k = whole p Even (t ∷ []) h (omega arith) tt (k, tt)
-
 pub is_game_often_a : IsGame often_a_game
 is_game_often_a = record {
   some = omega arith;
   limit = omega arith;
-  vertices = (
-    one_next 0 0 (omega arith) (omega arith),
-    (
-      one_next 1 1 (omega arith) (omega arith),
-      (
-        one_next 2 3 (omega arith) (omega arith),
-        (
-          one_next 1 4 (omega arith) (omega arith),
-          (
-            whole 0 Even (5 ∷ 7 ∷ []) (omega arith) (omega arith) (omega arith, tt) (omega arith, (omega arith, tt)),
-            (
-              one_next 0 13 (omega arith) (omega arith),
-              (
-                one_next 0 2 (omega arith) (omega arith),
-                (
-                  one_next 0 1 (omega arith) (omega arith),
-                  (
-                    one_next 0 3 (omega arith) (omega arith),
-                    (
-                      one_next 2 10 (omega arith) (omega arith),
-                      (
-                        one_next 1 11 (omega arith) (omega arith),
-                        (
-                          whole 0 Even (12 ∷ 14 ∷ []) (omega arith) (omega arith) (omega arith, tt) (omega arith, (omega arith, tt)),
-                          (
-                            one_next 0 1 (omega arith) (omega arith),
-                            (
-                              one_next 0 9 (omega arith) (omega arith),
-                              (
-                                one_next 0 8 (omega arith) (omega arith),
-                                (
-                                  one_next 0 10 (omega arith) (omega arith),
-                                  tt,
-                                ),
-                              ),
-                            ),
-                          ),
-                        ),
-                      ),
-                    ),
-                  ),
-                ),
-              ),
-            ),
-          ),
-        ),
-      ),
-    ),
-  );
+  vertices = vertices_from 16 often_a_game.vertices refl;
   named = λ states nodes e. (let q : two_of_seven ≡ (states, nodes) = cc in ap (λ (w : ℕ × ℕ). 2 + w.0 * w.1) q);
 }
 
+-- ---- winning, by evidence
+
+abbrev Fits : Player → Option Entry → Type 0
+Fits player None = Unit {0}
+Fits player (Some x) = IsEntry game_of_one_step player x
+
+-- a player wins each vertex of evidence without a fault
+wins : (e : Evidence) (v : ℕ) → length e.entries ≡ 6 → AllByRecursion (Fits e.player) e.entries → judged game_of_one_step e 0 6 ≡ Good → IsTrue (has e v)
+    → WinsBy e.player game_of_one_step v
+wins e v long fit good inside = good_wins game_of_one_step e
+    (record { long = long; entries = λ u x h. subst (Fits e.player) h (all_or (Fits e.player) e.entries u None fit tt) })
+    (subst (IsVerdict game_of_one_step e) good (judged_right game_of_one_step e)) v inside
+
+abbrev to : ℕ → Entry
+to t = record { move = Some t; rank = 0 ∷ [] }
+
+is_entry : (t : ℕ) → t < 6 → IsEntry game_of_one_step Even (to t)
+is_entry t h = record { move = λ u e. (let q : t ≡ u = cc in omega (arith, q, h)); rank = refl }
+
 -- Even wins (0,0), vertex 2 of that game, by 2, 5 and 0
-abbrev in_three : ℕ → Bool
-in_three v = v == 0 || (v == 2 || v == 5)
-
-abbrev next_of : ℕ → ℕ
-next_of v = if v == 2 then 5 else 0
-
-three : (v : ℕ) → IsTrue (in_three v) → (v ≡ 0) ⊎ ((v ≡ 2) ⊎ (v ≡ 5))
-three v h = grind (arith, nat_tests)
-
-abbrev edge : ℕ → ℕ → Type 0
-edge = Edge Even game_of_one_step next_of
-
--- at one of the three: Even owns it, its choice is its successor and one of the three, and its priority is 0
-record Fine (u : ℕ) : Type 0 where
-  priority : priority_at (vertex game_of_one_step u) ≡ 0
-  own : (v : Vertex) → vertex game_of_one_step u ≡ Some v → Contains v.successors (next_of u)
-  stays : (t : ℕ) → edge u t → IsTrue (in_three t)
-
-stays_at : (u : ℕ) (x : Vertex) → vertex game_of_one_step u ≡ Some x → x.owner ≡ Even → IsTrue (in_three (next_of u)) → (t : ℕ) → edge u t → IsTrue (in_three t)
-stays_at u x is even h t (v, at, inl (o, q)) = subst (λ y. IsTrue (in_three y)) (sym q) h
-stays_at u x is even h t (v, at, inr (o, c)) = let e : v ≡ x = cc (at, is) in absurd (o (ap (λ (y : Vertex). y.owner) e ∙ even))
-
-fine_0 : Fine 0
-fine_0 = record {
-  priority = refl;
-  own = λ v e. (let q : v ≡ vertex_at 0 Even (0 ∷ []) = cc
-      in subst (λ (x : Vertex). Contains x.successors 0) (sym q) (0, omega arith, refl));
-  stays = stays_at 0 (vertex_at 0 Even (0 ∷ [])) refl refl refl;
-}
-
-fine_2 : Fine 2
-fine_2 = record {
-  priority = refl;
-  own = λ v e. (let q : v ≡ vertex_at 0 Even (5 ∷ []) = cc
-      in subst (λ (x : Vertex). Contains x.successors 5) (sym q) (0, omega arith, refl));
-  stays = stays_at 2 (vertex_at 0 Even (5 ∷ [])) refl refl refl;
-}
-
-fine_5 : Fine 5
-fine_5 = record {
-  priority = refl;
-  own = λ v e. (let q : v ≡ vertex_at 0 Even (0 ∷ []) = cc
-      in subst (λ (x : Vertex). Contains x.successors 0) (sym q) (0, omega arith, refl));
-  stays = stays_at 5 (vertex_at 0 Even (0 ∷ [])) refl refl refl;
-}
-
-fine : (u : ℕ) → IsTrue (in_three u) → Fine u
-fine u h = elim (three u h) [ inl e ↦ subst Fine (sym e) fine_0 | inr w ↦ elim w [ inl e ↦ subst Fine (sym e) fine_2 | inr e ↦ subst Fine (sym e) fine_5 ] ]
-
-met_none : (u : ℕ) (others : List ℕ) (t : ℕ) → IsTrue (in_three u) → IsPath edge u others t → greatest_met game_of_one_step others ≡ 0
-met_none u [] t h p = refl
-met_none u (m ∷ others) t h p = let i = (fine u h).stays m p.0 in ap₂ max (fine m i).priority (met_none m others t i p.1)
-
 pub wins_one_step : Wins game_of_one_step 2
-wins_one_step = record {
-  set = in_three;
-  choice = next_of;
-  has = refl;
-  strategy = record {
-    inside = λ u h. (let w = three u h in grind arith);
-    own = λ u v h e o. (fine u h).own v e;
-    closed = λ u t h e. (fine u h).stays t e;
-    cycles = λ u others h n p. rw (met_none u others u h p) refl;
-  };
-}
+wins_one_step =
+    wins (record { player = Even; entries = Some (to 0) ∷ None ∷ Some (to 5) ∷ None ∷ None ∷ Some (to 0) ∷ [] }) 2 refl
+    (is_entry 0 (omega arith) & tt & is_entry 5 (omega arith) & tt & tt & is_entry 0 (omega arith) & tt) refl refl
+
+abbrev to_sink : ℕ → Entry
+to_sink k = record { move = None; rank = k ∷ [] }
+
+is_entry_to_sink : (k : ℕ) → IsEntry game_of_one_step Odd (to_sink k)
+is_entry_to_sink k = record { move = λ t e. absurd cc; rank = refl }
 
 -- Odd wins (1,0), vertex 4 of the same game: from there all play goes to the false sink
-abbrev in_two : ℕ → Bool
-in_two v = v == 1 || v == 4
-
-two : (v : ℕ) → IsTrue (in_two v) → (v ≡ 1) ⊎ (v ≡ 4)
-two v h = grind (arith, nat_tests)
-
-abbrev odd_edge : ℕ → ℕ → Type 0
-odd_edge = Edge Odd game_of_one_step (λ v. 0)
-
--- such a vertex is Even's
-not_odds : (u p : ℕ) → vertex game_of_one_step u ≡ Some (vertex_at p Even (1 ∷ [])) → (v : Vertex) → vertex game_of_one_step u ≡ Some v → v.owner ≡ Odd → ⊥
-not_odds u p is v at o = let e : v ≡ vertex_at p Even (1 ∷ []) = cc (at, is) in even_not_odd (sym (ap (λ (y : Vertex). y.owner) e) ∙ o)
-  where
-    even_not_odd : Even ≡ Odd → ⊥
-    even_not_odd e = cc
-
--- Even owns the vertex, and its only successor is the false sink
-to_sink : (u : ℕ) (p : ℕ) → vertex game_of_one_step u ≡ Some (vertex_at p Even (1 ∷ [])) → (t : ℕ) → odd_edge u t → t ≡ 1
-to_sink u p is t (v, at, inl (o, q)) = absurd (not_odds u p is v at o)
-to_sink u p is t (v, at, inr (o, c)) = let e : v ≡ vertex_at p Even (1 ∷ []) = cc (at, is) in only_one t (subst (λ (x : Vertex). Contains x.successors t) e c)
-  where
-    only_one : (x : ℕ) → Contains (1 ∷ []) x → x ≡ 1
-    only_one x (zero, l, q) = sym q
-    only_one x (suc k, l, q) = absurd (omega (arith, l))
-
-next_is_sink : (u t : ℕ) → IsTrue (in_two u) → odd_edge u t → t ≡ 1
-next_is_sink u t h e = elim (two u h) [
-  | inl q ↦ to_sink 1 1 refl t (subst (λ x. odd_edge x t) q e)
-  | inr q ↦ to_sink 4 0 refl t (subst (λ x. odd_edge x t) q e)
-]
-
-met_one : (u : ℕ) (m : ℕ) (others : List ℕ) (t : ℕ) → IsTrue (in_two u) → IsPath odd_edge u (m ∷ others) t → greatest_met game_of_one_step (m ∷ others) ≡ 1
-met_one u m [] t h p = let q = next_is_sink u m h p.0 in ap (λ v. greatest_met game_of_one_step (v ∷ [])) q
-met_one u m (o ∷ others) t h p =
-    let q = next_is_sink u m h p.0 in
-    let rest = met_one m o others t (subst (λ v. IsTrue (in_two v)) (sym q) refl) p.1 in
-    ap₂ (λ v n. max (priority_at (vertex game_of_one_step v)) n) q rest
-
 pub odd_wins_one_step : OddWins game_of_one_step 4
-odd_wins_one_step = record {
-  set = in_two;
-  choice = λ v. 0;
-  has = refl;
-  strategy = record {
-    inside = λ u h. (let w = two u h in grind arith);
-    own = own;
-    closed = λ u t h e. subst (λ v. IsTrue (in_two v)) (sym (next_is_sink u t h e)) refl;
-    cycles = cycles;
-  };
-}
-  where
-    own : (u : ℕ) (v : Vertex) → IsTrue (in_two u) → vertex game_of_one_step u ≡ Some v → v.owner ≡ Odd → Contains v.successors 0
-    own u v h at o = absurd (elim (two u h) [
-      | inl q ↦ not_odds 1 1 refl v (subst (λ x. vertex game_of_one_step x ≡ Some v) q at) o
-      | inr q ↦ not_odds 4 0 refl v (subst (λ x. vertex game_of_one_step x ≡ Some v) q at) o
-    ])
-
-    cycles : (u : ℕ) (others : List ℕ) → IsTrue (in_two u) → others ≢ [] → IsPath odd_edge u others u → IsOf Odd (greatest_met game_of_one_step others)
-    cycles u [] h n p = absurd (n refl)
-    cycles u (m ∷ others) h n p = ap (λ k. k % 2) (met_one u m others u h p)
+odd_wins_one_step =
+    wins (record { player = Odd; entries = None ∷ Some (to_sink 0) ∷ None ∷ None ∷ Some (to_sink 1) ∷ None ∷ [] }) 4 refl
+    (tt & is_entry_to_sink 0 & tt & tt & is_entry_to_sink 1 & tt & tt) refl refl
 
 -- a million states and seventeen nodes make too many vertices
 too_many_vertices : HasBuildRefusal 1000000 17 TooManyVertices

@@ -1,12 +1,18 @@
 -- Worked examples of systems and their texts.
-use Rattle.std.specs.Prelude.{◌≡◌, ℕ, true, false, List, [], ◌∷◌, ◌++◌, length, Some, None, codes, refl}
+use Rattle.std.specs.Prelude.{◌≡◌, ℕ, true, false, List, [], ◌∷◌, ◌++◌, length, Some, None, codes, refl, IsTrue, IsFalse, ◌==◌}
+use Rattle.std.specs.List.{concat, list_any, AllByRecursion}
 use Rattle.std.proofs.Common.{arith}
-use Rattle.text.specs.Text.{lines, is_blank, is_name, IsNumeral, is_numeral}
+use Rattle.text.specs.Text.{lines, is_blank, is_name, IsNumeral, IsSpaced, is_numeral, value_of}
 use Rattle.systems.specs.Label.{is_label, multi_action_of}
-use Rattle.systems.specs.System.{Arrow, System, IsSystem, set_of}
+use Rattle.systems.specs.System.{Arrow, System, IsArrow, IsSystem, set_of}
 use Rattle.std.specs.Fmt.{digits}
 use Rattle.lts.specs.Canon.{aut_text}
 use Rattle.lts.specs.Aut.{IsAut, IsAutHeader, IsTransition}
+
+-- a proof of the first and one of the rest
+infixr 10 ◌&◌
+abbrev pub ◌&◌ : {A B : Type 0} → A → B → A × B
+a & b = (a, b)
 
 abbrev pub arrow : ℕ → List ℕ → ℕ → Arrow
 arrow s l t = record { source = s; label = l; target = t }
@@ -24,37 +30,24 @@ names = (refl, refl, refl, refl)
 labels : (is_label (codes "r(1)") ≡ true) × (is_label [] ≡ false) × (is_label (34 ∷ []) ≡ false) × (is_label (9 ∷ []) ≡ false)
 labels = (refl, refl, refl, refl)
 
-v_reading : multi_action_of (codes "b|a") ≡ Some (codes "a" ∷ codes "b" ∷ [])
-v_reading = refl
-
-v_opaque : multi_action_of (codes "r(1)") ≡ None
-v_opaque = refl
-
-v_tau : multi_action_of (codes "tau") ≡ Some []
-v_tau = refl
-
-v_tau_bar : multi_action_of (codes "a|tau") ≡ None
-v_tau_bar = refl
-
-v_twice : multi_action_of (codes "a|a") ≡ Some (codes "a" ∷ codes "a" ∷ [])
-v_twice = refl
+readings : (multi_action_of (codes "b|a") ≡ Some (codes "a" ∷ codes "b" ∷ [])) × (multi_action_of (codes "r(1)") ≡ None)
+    × (multi_action_of (codes "tau") ≡ Some []) × (multi_action_of (codes "a|tau") ≡ None)
+    × (multi_action_of (codes "a|a") ≡ Some (codes "a" ∷ codes "a" ∷ []))
+readings = (refl, refl, refl, refl, refl)
 
 -- the two-state system: des (0,2,2), (0,"a",1), (1,"b",0)
 abbrev pub two_states_text : List ℕ
-two_states_text = codes "des (0,2,2)" ++ 10 ∷ (codes "(0," ++ 34 ∷ codes "a" ++ 34 ∷ codes ",1)"
-    ++ 10 ∷ (codes "(1," ++ 34 ∷ codes "b" ++ 34 ∷ codes ",0)" ++ 10 ∷ []))
+two_states_text = codes "des (0,2,2)\n(0,\"a\",1)\n(1,\"b\",0)\n"
 
 abbrev pub two_states : System
 two_states = record { states = 2; initial = 0; arrows = arrow 0 (codes "a") 1 ∷ arrow 1 (codes "b") 0 ∷ [] }
 
+arrows_two_states : AllByRecursion (IsArrow 2) two_states.arrows
+arrows_two_states =
+    (record { source = omega arith; target = omega arith; label = refl }, (record { source = omega arith; target = omega arith; label = refl }, tt))
+
 is_system_two_states : IsSystem two_states
-is_system_two_states = record {
-  some = omega arith;
-  limit = omega arith;
-  initial = omega arith;
-  arrows = (record { source = omega arith; target = omega arith; label = refl }, (record { source = omega arith; target = omega arith; label = refl }, tt));
-  set = refl;
-}
+is_system_two_states = record { some = omega arith; limit = omega arith; initial = omega arith; arrows = arrows_two_states; set = refl }
 
 -- each arrow once, by source, then by label
 set_of_three : set_of (arrow 1 (codes "b") 0 ∷ arrow 0 (codes "a") 1 ∷ arrow 1 (codes "b") 0 ∷ []) ≡ arrow 0 (codes "a") 1 ∷ arrow 1 (codes "b") 0 ∷ []
@@ -63,114 +56,39 @@ set_of_three = refl
 v_two_states_lines : length (lines two_states_text) ≡ 3
 v_two_states_lines = refl
 
+-- tokens without blanks between them
+tight : (tokens : List (List ℕ)) → IsSpaced tokens (concat tokens)
+tight [] = refl
+tight (token ∷ tokens) = ([], concat tokens, refl, refl, tight tokens)
+
+-- a header with one blank
+pub header : (i m n : List ℕ) → IsTrue (is_numeral i) → IsTrue (is_numeral m) → IsTrue (is_numeral n)
+    → IsAutHeader (codes "des " ++ concat (codes "(" ∷ i ∷ codes "," ∷ m ∷ codes "," ∷ n ∷ codes ")" ∷ [])) (value_of i) (value_of m) (value_of n)
+header i m n initial count states =
+    let counts = i ∷ codes "," ∷ m ∷ codes "," ∷ n ∷ codes ")" ∷ [] in
+    let spaced = codes " (" ++ concat counts in
+    (i, m, n, (initial, refl), (count, refl), (states, refl), ([], spaced, refl, refl, (codes " ", concat counts, refl, refl, tight counts)))
+
+-- a transition's line without blanks
+pub transition : (s label t : List ℕ) → IsTrue (is_numeral s) → IsTrue (is_numeral t) → IsFalse (list_any (λ b. b == 34) label)
+    → IsTransition (concat (codes "(" ∷ s ∷ codes "," ∷ (34 ∷ label ++ 34 ∷ []) ∷ codes "," ∷ t ∷ codes ")" ∷ [])) (arrow (value_of s) label (value_of t))
+transition s label t source target plain =
+    (s, t, (source, refl), (target, refl), plain, tight (codes "(" ∷ s ∷ codes "," ∷ (34 ∷ label ++ 34 ∷ []) ∷ codes "," ∷ t ∷ codes ")" ∷ []))
+
 pub two_states_header : IsAutHeader (codes "des (0,2,2)") 0 2 2
-two_states_header = (
-  codes "0",
-  codes "2",
-  codes "2",
-  (refl, refl),
-  (refl, refl),
-  (refl, refl),
-  (
-    [],
-    codes " (0,2,2)",
-    refl,
-    refl,
-    (
-      codes " ",
-      codes "0,2,2)",
-      refl,
-      refl,
-      (
-        [],
-        codes ",2,2)",
-        refl,
-        refl,
-        (
-          [],
-          codes "2,2)",
-          refl,
-          refl,
-          ([], codes ",2)", refl, refl, ([], codes "2)", refl, refl, ([], codes ")", refl, refl, ([], [], refl, refl, refl)))),
-        ),
-      ),
-    ),
-  ),
-)
+two_states_header = header (codes "0") (codes "2") (codes "2") refl refl refl
 
-pub line_a : IsTransition (codes "(0," ++ 34 ∷ codes "a" ++ 34 ∷ codes ",1)") (arrow 0 (codes "a") 1)
-line_a = (
-  codes "0",
-  codes "1",
-  (refl, refl),
-  (refl, refl),
-  refl,
-  (
-    [],
-    codes "0," ++ 34 ∷ codes "a" ++ 34 ∷ codes ",1)",
-    refl,
-    refl,
-    (
-      [],
-      codes "," ++ 34 ∷ codes "a" ++ 34 ∷ codes ",1)",
-      refl,
-      refl,
-      (
-        [],
-        34 ∷ codes "a" ++ 34 ∷ codes ",1)",
-        refl,
-        refl,
-        (
-          [],
-          codes ",1)",
-          refl,
-          refl,
-          ([], codes "1)", refl, refl, ([], codes ")", refl, refl, ([], [], refl, refl, refl))),
-        ),
-      ),
-    ),
-  ),
-)
+pub line_a : IsTransition (codes "(0,\"a\",1)") (arrow 0 (codes "a") 1)
+line_a = transition (codes "0") (codes "a") (codes "1") refl refl refl
 
-line_b : IsTransition (codes "(1," ++ 34 ∷ codes "b" ++ 34 ∷ codes ",0)") (arrow 1 (codes "b") 0)
-line_b = (
-  codes "1",
-  codes "0",
-  (refl, refl),
-  (refl, refl),
-  refl,
-  (
-    [],
-    codes "1," ++ 34 ∷ codes "b" ++ 34 ∷ codes ",0)",
-    refl,
-    refl,
-    (
-      [],
-      codes "," ++ 34 ∷ codes "b" ++ 34 ∷ codes ",0)",
-      refl,
-      refl,
-      (
-        [],
-        34 ∷ codes "b" ++ 34 ∷ codes ",0)",
-        refl,
-        refl,
-        (
-          [],
-          codes ",0)",
-          refl,
-          refl,
-          ([], codes "0)", refl, refl, ([], codes ")", refl, refl, ([], [], refl, refl, refl))),
-        ),
-      ),
-    ),
-  ),
-)
+line_b : IsTransition (codes "(1,\"b\",0)") (arrow 1 (codes "b") 0)
+line_b = transition (codes "1") (codes "b") (codes "0") refl refl refl
 
 pub aut_p : IsAut two_states_text two_states
 aut_p =
     record {
       first = codes "des (0,2,2)";
-      rest = (codes "(0," ++ 34 ∷ codes "a" ++ 34 ∷ codes ",1)") ∷ (codes "(1," ++ 34 ∷ codes "b" ++ 34 ∷ codes ",0)") ∷ [];
+      rest = codes "(0,\"a\",1)" ∷ codes "(1,\"b\",0)" ∷ [];
       spelled = arrow 0 (codes "a") 1 ∷ arrow 1 (codes "b") 0 ∷ [];
       cut = refl;
       header = two_states_header;
@@ -180,7 +98,7 @@ aut_p =
       some = omega arith;
       limit = omega arith;
       initial = omega arith;
-      within = (record { source = omega arith; target = omega arith; label = refl }, (record { source = omega arith; target = omega arith; label = refl }, tt));
+      within = arrows_two_states;
     }
 
 -- the text is the canonical one
@@ -188,9 +106,6 @@ canonical_two_states : aut_text two_states ≡ two_states_text
 unfolding digits
 canonical_two_states = refl
 
--- a number of any length is a numeral
-long : IsNumeral (codes "99999999999999999999999") 99999999999999999999999
-long = (refl, refl)
-
-no_leading_zero : is_numeral (codes "00") ≡ false
-no_leading_zero = refl
+-- a number of any length is a numeral, but not with a 0 in front
+numerals : IsNumeral (codes "99999999999999999999999") 99999999999999999999999 × (is_numeral (codes "00") ≡ false)
+numerals = ((refl, refl), refl)
