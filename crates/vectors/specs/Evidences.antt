@@ -19,7 +19,7 @@ use Rattle.evidence.specs.declared.verdict.Both.TheVariants.{LeftOut, OnePlayer,
 use Rattle.laws.proofs.Flags.{either}
 use Rattle.laws.proofs.Lists.{all_gives, gives_range, of_two, only_in}
 use Rattle.evidence.proofs.Tested.{judged, judged_right}
-use Rattle.vectors.specs.Games.{often_a_game, vertex_at}
+use Rattle.vectors.specs.Games.{even_to, often_a_game, vertex_at}
 use Rattle.vectors.specs.Tables.{least_often_a, least_table_often_a}
 
 -- Even's ranks count priority 1, and Odd's 2 and 0
@@ -148,10 +148,10 @@ lesser x t c low = record {
       (low u d) i j;
 }
 
-best_one : (p t : ℕ) → Best (vertex_at p Even (t ∷ [])) (Some t)
+best_one : (p t : ℕ) → Best (even_to p t) (Some t)
 best_one p t = (
   refl,
-  lesser (vertex_at p Even (t ∷ [])) t (contains_first t [])
+  lesser (even_to p t) t (contains_first t [])
       (λ u d. subst (λ w. IsAtMost (value_at least_often_a t) (value_at least_often_a w)) (sym (only_in t u d)) (at_most_itself (value_at least_often_a t))),
   λ u is. (let e = only_in t u is.successor in omega arith),
 )
@@ -213,9 +213,9 @@ here v w t k c at entry is best = (
     same : (a b : Vertex) → Some a ≡ Some b → a ≡ b
     same a b e = cc
 
-at_one : (v p t k : ℕ) (c : List ℕ) → vertex often_a_game v ≡ Some (vertex_at p Even (t ∷ [])) → entry_at evens v ≡ goes t k → Counts (k ∷ []) ≡ Counts c
+at_one : (v p t k : ℕ) (c : List ℕ) → vertex often_a_game v ≡ Some (even_to p t) → entry_at evens v ≡ goes t k → Counts (k ∷ []) ≡ Counts c
     → Inside v c
-at_one v p t k c at entry is = here v (vertex_at p Even (t ∷ [])) t k c at entry is (best_one p t)
+at_one v p t k c at entry is = here v (even_to p t) t k c at entry is (best_one p t)
 
 inside : (v : ℕ) (c : List ℕ) → value_at least_often_a v ≡ Counts c → Inside v c
 inside zero c h = at_one 0 0 0 0 c refl refl h

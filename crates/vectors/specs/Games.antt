@@ -24,24 +24,30 @@ use Rattle.evidence.proofs.Tested.{judged, judged_right}
 abbrev pub vertex_at : ℕ → Player → List ℕ → Vertex
 vertex_at p o ss = record { owner = o; priority = p; successors = ss }
 
+-- a vertex of Even's with one successor
+abbrev pub even_to : ℕ → ℕ → Vertex
+even_to p t = vertex_at p Even (t ∷ [])
+
 -- <a>true on the two-state system
 abbrev pub game_of_one_step : Game
-game_of_one_step = arena two_states (nodes (Dia (Step name_a) True))
+game_of_one_step = record {
+  vertices = even_to 0 0 ∷ even_to 1 1 ∷ even_to 0 5 ∷ even_to 0 0 ∷ even_to 0 1 ∷ even_to 0 0 ∷ [];
+  named = Some (2, 2);
+}
 
-vertices_one_step : game_of_one_step.vertices ≡ vertex_at 0 Even (0 ∷ []) ∷ vertex_at 1 Even (1 ∷ []) ∷ vertex_at 0 Even (5 ∷ []) ∷ vertex_at 0 Even (0 ∷ [])
-    ∷ vertex_at 0 Even (1 ∷ []) ∷ vertex_at 0 Even (0 ∷ []) ∷ []
-vertices_one_step = refl
+arena_one_step : arena two_states (nodes (Dia (Step name_a) True)) ≡ game_of_one_step
+arena_one_step = refl
 
 -- [true]false on one state without transitions
 abbrev stuck : Game
 stuck = arena (record { states = 1; initial = 0; arrows = [] }) (nodes (Box (Step Anything) False))
 
-vertices_stuck : stuck.vertices ≡ vertex_at 0 Even (0 ∷ []) ∷ vertex_at 1 Even (1 ∷ []) ∷ vertex_at 0 Odd (0 ∷ []) ∷ vertex_at 0 Even (1 ∷ []) ∷ []
+vertices_stuck : stuck.vertices ≡ even_to 0 0 ∷ even_to 1 1 ∷ vertex_at 0 Odd (0 ∷ []) ∷ even_to 0 1 ∷ []
 vertices_stuck = refl
 
 -- the dual names no vertices
 dual_stuck : dual stuck
-    ≡ record { vertices = vertex_at 1 Odd (0 ∷ []) ∷ vertex_at 2 Odd (1 ∷ []) ∷ vertex_at 1 Even (0 ∷ []) ∷ vertex_at 1 Odd (1 ∷ []) ∷ []; named = None }
+    ≡ record { vertices = vertex_at 1 Odd (0 ∷ []) ∷ vertex_at 2 Odd (1 ∷ []) ∷ even_to 1 0 ∷ vertex_at 1 Odd (1 ∷ []) ∷ []; named = None }
 dual_stuck = refl
 
 abbrev two_of_seven : ℕ × ℕ
@@ -51,10 +57,8 @@ two_of_seven = (2, 7)
 abbrev pub often_a_game : Game
 often_a_game = record {
   vertices =
-      vertex_at 0 Even (0 ∷ []) ∷ vertex_at 1 Even (1 ∷ []) ∷ vertex_at 2 Even (3 ∷ []) ∷ vertex_at 1 Even (4 ∷ []) ∷ vertex_at 0 Even (5 ∷ 7 ∷ [])
-      ∷ vertex_at 0 Even (13 ∷ []) ∷ vertex_at 0 Even (2 ∷ []) ∷ vertex_at 0 Even (1 ∷ []) ∷ vertex_at 0 Even (3 ∷ []) ∷ vertex_at 2 Even (10 ∷ [])
-      ∷ vertex_at 1 Even (11 ∷ []) ∷ vertex_at 0 Even (12 ∷ 14 ∷ []) ∷ vertex_at 0 Even (1 ∷ []) ∷ vertex_at 0 Even (9 ∷ []) ∷ vertex_at 0 Even (8 ∷ [])
-      ∷ vertex_at 0 Even (10 ∷ []) ∷ [];
+      even_to 0 0 ∷ even_to 1 1 ∷ even_to 2 3 ∷ even_to 1 4 ∷ vertex_at 0 Even (5 ∷ 7 ∷ []) ∷ even_to 0 13 ∷ even_to 0 2 ∷ even_to 0 1 ∷ even_to 0 3
+      ∷ even_to 2 10 ∷ even_to 1 11 ∷ vertex_at 0 Even (12 ∷ 14 ∷ []) ∷ even_to 0 1 ∷ even_to 0 9 ∷ even_to 0 8 ∷ even_to 0 10 ∷ [];
   named = Some two_of_seven;
 }
 

@@ -18,7 +18,7 @@ use Rattle.measures.proofs.Monotone.{lift_one}
 use Rattle.measures.proofs.Plain.{value_set_other, value_set_same}
 use Rattle.laws.proofs.Lists.{gives_range}
 use Rattle.vectors.specs.Systems.{◌&◌}
-use Rattle.vectors.specs.Games.{vertex_at, often_a_game, is_game_often_a}
+use Rattle.vectors.specs.Games.{even_to, vertex_at, often_a_game, is_game_often_a}
 use Rattle.vectors.specs.Measures.{prog_0}
 
 abbrev pub number : ℕ → Measure
@@ -53,10 +53,10 @@ lift_even = (number 0 ∷ Top ∷ [], number 0, same 0 (omega arith) & top_prog 
 lift_odd : IsLift often_a_game (vertex_at 0 Odd (5 ∷ 7 ∷ [])) (number 0) (number 0 ∷ Top ∷ []) Top
 lift_odd = (number 0 ∷ Top ∷ [], Top, same 0 (omega arith) & top_prog often_a_game 0 & tt, ((1, omega arith, refl), refl & refl & tt), refl)
 
-lift_last : IsLift often_a_game (vertex_at 1 Even (4 ∷ [])) (number 2) (number 3 ∷ []) Top
+lift_last : IsLift often_a_game (even_to 1 4) (number 2) (number 3 ∷ []) Top
 lift_last = (Top ∷ [], Top, (prog_1_last, tt), best_single Even Top, refl)
 
-lift_own : IsLift often_a_game (vertex_at 2 Even (10 ∷ [])) (number 1) (number 3 ∷ []) (number 1)
+lift_own : IsLift often_a_game (even_to 2 10) (number 1) (number 3 ∷ []) (number 1)
 lift_own = (number 0 ∷ [], number 0, (prog_2 3, tt), best_single Even (number 0), refl)
 
 -- at vertex 11 the value is taken from vertex 14
@@ -129,7 +129,7 @@ lifted_tables = set_each (opening often_a_game)
     ((7, Top) ∷ (12, Top) ∷ (3, number 1) ∷ (8, number 1) ∷ (14, number 1) ∷ (11, number 1) ∷ (10, number 2) ∷ (15, number 2) ∷ [])
 
 -- the lift at a vertex of Even's with one successor
-rise : {table : List Measure} (v p t : ℕ) (r : Measure) → v < length table → vertex often_a_game v ≡ Some (vertex_at p Even (t ∷ []))
+rise : {table : List Measure} (v p t : ℕ) (r : Measure) → v < length table → vertex often_a_game v ≡ Some (even_to p t)
     → IsProg often_a_game p (value_at table t) r → IsLifted often_a_game table (slice_set table v (greater_of (value_at table v) r))
 rise {table} v p t r h at is = lifted table v (greater_of (value_at table v) r) h (single often_a_game table v p t Even r at is)
 
