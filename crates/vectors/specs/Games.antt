@@ -50,16 +50,13 @@ dual_stuck : dual stuck
     ≡ record { vertices = vertex_at 1 Odd (0 ∷ []) ∷ vertex_at 2 Odd (1 ∷ []) ∷ even_to 1 0 ∷ vertex_at 1 Odd (1 ∷ []) ∷ []; named = None }
 dual_stuck = refl
 
-abbrev two_of_seven : ℕ × ℕ
-two_of_seven = (2, 7)
-
 -- nu X. mu Y. (<a>X || <b>Y) on the two-state system: two states with seven nodes each
 abbrev pub often_a_game : Game
 often_a_game = record {
   vertices =
       even_to 0 0 ∷ even_to 1 1 ∷ even_to 2 3 ∷ even_to 1 4 ∷ vertex_at 0 Even (5 ∷ 7 ∷ []) ∷ even_to 0 13 ∷ even_to 0 2 ∷ even_to 0 1 ∷ even_to 0 3
       ∷ even_to 2 10 ∷ even_to 1 11 ∷ vertex_at 0 Even (12 ∷ 14 ∷ []) ∷ even_to 0 1 ∷ even_to 0 9 ∷ even_to 0 8 ∷ even_to 0 10 ∷ [];
-  named = Some two_of_seven;
+  named = Some (2, 7);
 }
 
 arena_often_a : arena two_states (nodes often_a) ≡ often_a_game
@@ -70,11 +67,12 @@ is_game_often_a = record {
   some = omega arith;
   limit = omega arith;
   vertices = vertices_from 16 often_a_game.vertices refl;
-  named = λ states nodes e. (let q : two_of_seven ≡ (states, nodes) = cc in ap (λ (w : ℕ × ℕ). 2 + w.0 * w.1) q);
+  named = λ states nodes e. (let q : ◌≡◌ {A = ℕ × ℕ} (2, 7) (states, nodes) = cc in ap (λ (w : ℕ × ℕ). 2 + w.0 * w.1) q);
 }
 
 -- ---- winning, by evidence
 
+-- what evidence has of a vertex is an entry of the game
 abbrev Fits : Player → Option Entry → Type 0
 Fits player None = Unit {0}
 Fits player (Some x) = IsEntry game_of_one_step player x
