@@ -1,13 +1,14 @@
 -- Worked examples of formulas, canonical texts and satisfaction of action formulas.
-use Rattle.std.specs.Prelude.{◌≡◌, true, false, [], ◌∷◌, None, codes, refl}
+use Rattle.std.specs.Prelude.{◌≡◌, true, false, List, [], ◌∷◌, None, IsTrue, codes, refl}
 use Rattle.std.proofs.Common.{arith}
 use Rattle.calculus.specs.Tree.{Action, Anything, Names, Quoted, NotAct, AndAct, Step, Either, Plus, Formula, True, False, Var, Not, Or, Implies, Dia, Mu, Nu}
 use Rattle.calculus.specs.Holds.{holds}
 use Rattle.calculus.specs.Admitted.{IsAdmitted, is_admitted_in}
 use Rattle.calculus.specs.Canon.{canon}
-use Rattle.grammar.specs.Token.{Name, Less, Greater, ChoiceSign, PlusSign, TrueWord, Blank, Word, is_decided}
-use Rattle.grammar.specs.Syntax.{Names', Parens', And', Then', Plus', Either', OneOf', Group', Dia', Mu', Var', True', fits, meant}
-use Rattle.formula.specs.Spells.{Spells, SpellsWithin}
+use Rattle.grammar.specs.Token.{Name, Less, Greater, ChoiceSign, PlusSign, TrueWord, Segment, Blank, Word, Cuts, text_of, tokens_of, is_decided}
+use Rattle.grammar.specs.Syntax.{Names', Parens', And', Then', Plus', Either', OneOf', Group', Dia', Mu', Var', True', Syntax, fits, tokens, meant}
+use Rattle.formula.specs.Spells.{IsWritten, Spells, SpellsWithin}
+use Rattle.formula.proofs.Refusals.{without_limits}
 
 abbrev pub name_a : Action
 name_a = Names (codes "a" ∷ [])
@@ -32,33 +33,22 @@ plus_or_b = Dia (Either (Plus (Step name_a)) (Step name_b)) True
 canon_plus_or_b : canon plus_or_b ≡ codes "<(a+ + b)>true"
 canon_plus_or_b = refl
 
-pub spells_plus_or_b : Spells (codes "<a + + b>true") plus_or_b
-spells_plus_or_b =
-    record {
-      pieces = Word Less ∷ Word (Name (codes "a")) ∷ Blank 32 ∷ Word PlusSign ∷ Blank 32 ∷ Word ChoiceSign ∷ Blank 32 ∷ Word
-          (Name (codes "b")) ∷ Word Greater ∷ Word TrueWord ∷ [];
-      syntax = Dia' (Either' (Plus' (Names' (codes "a") [])) (Names' (codes "b") [])) True';
-      written = record {
-        joined = refl;
-        cut = (tt, refl, (refl, refl, (refl, refl, (tt, refl, (refl, refl, (tt, refl, (refl, refl, (refl, refl, (tt, refl, (tt, refl, tt))))))))));
-        decided = refl;
-        spelled = refl;
-        grammatical = refl;
-      };
-      stands_for = refl;
-    }
+-- a text of these pieces, whose tokens are this formula
+pub written : (pieces : List Segment) (s : Syntax) → Cuts pieces [] → IsTrue (is_decided (tokens_of pieces)) → tokens_of pieces ≡ tokens s → IsTrue (fits s)
+    → IsWritten (text_of pieces) pieces s
+written pieces s cut decided spelled fit = record { joined = refl; cut = cut; decided = decided; spelled = spelled; grammatical = fit }
 
 spells_within_plus_or_b : SpellsWithin (codes "<a + + b>true") plus_or_b
-unfolding spells_plus_or_b
 spells_within_plus_or_b =
-    record {
-      pieces = spells_plus_or_b.pieces;
-      syntax = spells_plus_or_b.syntax;
-      written = spells_plus_or_b.written;
-      stands_for = spells_plus_or_b.stands_for;
-      within = refl;
-      short = omega arith;
-    }
+    let pieces : List Segment = Word Less ∷ Word (Name (codes "a")) ∷ Blank 32 ∷ Word PlusSign ∷ Blank 32 ∷ Word ChoiceSign ∷ Blank 32
+    ∷ Word (Name (codes "b")) ∷ Word Greater ∷ Word TrueWord ∷ [] in
+    let s = Dia' (Either' (Plus' (Names' (codes "a") [])) (Names' (codes "b") [])) True' in
+    let text = written pieces s
+    (tt, refl, (refl, refl, (refl, refl, (tt, refl, (refl, refl, (tt, refl, (refl, refl, (refl, refl, (tt, refl, (tt, refl, tt)))))))))) refl refl refl in
+    record { pieces = pieces; syntax = s; written = text; stands_for = refl; within = refl; short = omega arith }
+
+pub spells_plus_or_b : Spells (codes "<a + + b>true") plus_or_b
+spells_plus_or_b = without_limits (codes "<a + + b>true") plus_or_b spells_within_plus_or_b
 
 -- of `+ +` before `b` the first is the postfix sign
 signs : (is_decided (PlusSign ∷ ChoiceSign ∷ Name (codes "b") ∷ []) ≡ true) × (is_decided (ChoiceSign ∷ ChoiceSign ∷ Name (codes "b") ∷ []) ≡ false)
