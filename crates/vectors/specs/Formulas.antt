@@ -20,11 +20,8 @@ name_b = Names (codes "b" ∷ [])
 abbrev pub often_a : Formula
 often_a = Nu (codes "X") (Mu (codes "Y") (Or (Dia (Step name_a) (Var (codes "X"))) (Dia (Step name_b) (Var (codes "Y")))))
 
-canon_often_a : canon often_a ≡ codes "(nu X. (mu Y. (<a>X || <b>Y)))"
-canon_often_a = refl
-
-admitted_often_a : IsAdmitted often_a
-admitted_often_a = refl
+admitted_often_a : (canon often_a ≡ codes "(nu X. (mu Y. (<a>X || <b>Y)))") × IsAdmitted often_a
+admitted_often_a = (refl, refl)
 
 -- <a + + b>true
 abbrev pub plus_or_b : Formula
@@ -69,35 +66,22 @@ no_action = (refl, refl)
 abbrev pub twice_negated : Formula
 twice_negated = Mu (codes "X") (Not (Implies (Var (codes "X")) False))
 
-canon_twice_negated : canon twice_negated ≡ codes "(mu X. !(X => false))"
-canon_twice_negated = refl
-
-admitted_twice_negated : IsAdmitted twice_negated
-admitted_twice_negated = refl
+admitted_twice_negated : (canon twice_negated ≡ codes "(mu X. !(X => false))") × IsAdmitted twice_negated
+admitted_twice_negated = (refl, refl)
 
 -- mu X. !X; mu X. Y
-odd : is_admitted_in [] (Mu (codes "X") (Not (Var (codes "X")))) ≡ false
-odd = refl
-
-unbound : is_admitted_in [] (Mu (codes "X") (Var (codes "Y"))) ≡ false
-unbound = refl
-
-multi : holds (Names (codes "a" ∷ codes "b" ∷ [])) (codes "b|a") ≡ true
-multi = refl
+not_admitted : (is_admitted_in [] (Mu (codes "X") (Not (Var (codes "X")))) ≡ false) × (is_admitted_in [] (Mu (codes "X") (Var (codes "Y"))) ≡ false)
+not_admitted = (refl, refl)
 
 -- the order of names doesn't count, how often each stands does
-turned : holds (Names (codes "b" ∷ codes "a" ∷ [])) (codes "a|b") ≡ true
-turned = refl
-
-twice : (holds (Names (codes "b" ∷ codes "a" ∷ codes "b" ∷ [])) (codes "b|b|a") ≡ true)
+multi : (holds (Names (codes "a" ∷ codes "b" ∷ [])) (codes "b|a") ≡ true) × (holds (Names (codes "b" ∷ codes "a" ∷ [])) (codes "a|b") ≡ true)
+    × (holds (Names (codes "b" ∷ codes "a" ∷ codes "b" ∷ [])) (codes "b|b|a") ≡ true)
     × (holds (Names (codes "a" ∷ codes "a" ∷ codes "b" ∷ [])) (codes "b|b|a") ≡ false)
-twice = (refl, refl)
+multi = (refl, refl, refl, refl)
 
-one_of_two : holds name_a (codes "b|a") ≡ false
-one_of_two = refl
-
-other_order : holds (Quoted (codes "a|b")) (codes "b|a") ≡ false
-other_order = refl
+-- neither one of two names holds, nor a label in another order
+only_part : (holds name_a (codes "b|a") ≡ false) × (holds (Quoted (codes "a|b")) (codes "b|a") ≡ false)
+only_part = (refl, refl)
 
 opaque : (holds (Quoted (codes "r(1)")) (codes "r(1)") ≡ true) × (holds (Names (codes "r" ∷ [])) (codes "r(1)") ≡ false)
 opaque = (refl, refl)

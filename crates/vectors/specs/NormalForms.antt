@@ -1,6 +1,5 @@
 -- Worked examples of normal forms.
-use Rattle.std.specs.Prelude.{◌≡◌, ℕ, zero, suc, ◌%◌, ◌==◌, if◌then◌else◌, true, false, List, [], ◌∷◌, ◌++◌, bytes_eq, codes, refl}
-use Rattle.std.specs.List.{flat_map}
+use Rattle.std.specs.Prelude.{◌≡◌, ℕ, zero, suc, ◌%◌, ◌==◌, if◌then◌else◌, true, false, List, [], ◌∷◌, bytes_eq, codes, refl}
 use Rattle.std.specs.Fmt.{digits}
 use Rattle.std.proofs.Common.{arith, lit<, lit≤}
 use Rattle.calculus.specs.Tree.{Anything, Regular, Step, Then, Either, Star, Plus, Formula, True, False, Var, Not, And, Or, Dia, Box, Mu, Nu}
@@ -10,7 +9,6 @@ use Rattle.calculus.specs.NormalTree.{modal_count, formula_from}
 use Rattle.calculus.specs.Nodes.{nodes, Node, greatest_nested, greatest_node_priority}
 use Rattle.calculus.specs.Rules.{nodes_with}
 use Rattle.calculus.specs.declared.priorities.Priorities.TheVariants.{Dependent}
-use Rattle.text.specs.Pieces.{line_end}
 use Rattle.normal.specs.NormalText.{normal_text}
 use Rattle.normal.specs.Refused.{HasRefusal}
 use Rattle.normal.specs.declared.error.NormalError.TheVariants.{TooManyNodes, PriorityTooGreat}
@@ -40,26 +38,18 @@ negated_nodes : nodes negated
     (ModalityNode true name_b 5) 0 ∷ node (VariableNode 3) 0 ∷ []
 negated_nodes = refl
 
--- each of these as a line
-abbrev lined : List (List ℕ) → List ℕ
-lined = flat_map (λ line. line ++ line_end)
-
 plus_or_b_text : normal_text (nodes plus_or_b) (depth (normal_form plus_or_b))
-    ≡ lined (codes "nodes 9 priority 1 depth 1" ∷ codes "0 or 0 1 7" ∷ codes "1 dia 0 2 a" ∷ codes "2 mu 1 3" ∷ codes "3 or 0 4 5" ∷ codes "4 true 0"
-    ∷ codes "5 dia 0 6 a"
-    ∷ codes "6 var 0 2" ∷ codes "7 dia 0 8 b" ∷ codes "8 true 0" ∷ [])
+    ≡ codes "nodes 9 priority 1 depth 1\n0 or 0 1 7\n1 dia 0 2 a\n2 mu 1 3\n3 or 0 4 5\n4 true 0\n5 dia 0 6 a\n6 var 0 2\n7 dia 0 8 b\n8 true 0\n"
 unfolding digits
 plus_or_b_text = refl
 
 negated_text : normal_text (nodes negated) (depth (normal_form negated))
-    ≡ lined (codes "nodes 6 priority 0 depth 1" ∷ codes "0 or 0 1 3" ∷ codes "1 box 0 2 a" ∷ codes "2 false 0" ∷ codes "3 nu 0 4" ∷ codes "4 dia 0 5 b"
-    ∷ codes "5 var 0 3" ∷ [])
+    ≡ codes "nodes 6 priority 0 depth 1\n0 or 0 1 3\n1 box 0 2 a\n2 false 0\n3 nu 0 4\n4 dia 0 5 b\n5 var 0 3\n"
 unfolding digits
 negated_text = refl
 
 -- the child's number stands before the action
-action_last : bytes_eq (normal_text (nodes (Dia (Step name_a) True)) 0)
-    (lined (codes "nodes 2 priority 0 depth 0" ∷ codes "0 dia 0 a 1" ∷ codes "1 true 0" ∷ [])) ≡ false
+action_last : bytes_eq (normal_text (nodes (Dia (Step name_a) True)) 0) (codes "nodes 2 priority 0 depth 0\n0 dia 0 a 1\n1 true 0\n") ≡ false
 unfolding digits
 action_last = refl
 
@@ -133,7 +123,8 @@ apart_dependent : nodes_with Dependent apart
 apart_dependent = refl
 
 -- [true*]<true*>(<a>true)
-everywhere : (greatest_nested (normal_form (Box (Star (Step Anything)) (Dia (Star (Step Anything)) (Dia (Step name_a) True)))) ≡ 2)
-    × (size (normal_form (Box (Star (Step Anything)) (Dia (Star (Step Anything)) (Dia (Step name_a) True)))) ≡ 10)
-    × (depth (normal_form (Box (Star (Step Anything)) (Dia (Star (Step Anything)) (Dia (Step name_a) True)))) ≡ 2)
-everywhere = (refl, refl, refl)
+abbrev everywhere : Formula
+everywhere = Box (Star (Step Anything)) (Dia (Star (Step Anything)) (Dia (Step name_a) True))
+
+everywhere_is : (greatest_nested (normal_form everywhere) ≡ 2) × (size (normal_form everywhere) ≡ 10) × (depth (normal_form everywhere) ≡ 2)
+everywhere_is = (refl, refl, refl)

@@ -1,5 +1,5 @@
 -- Worked examples of texts that spell no schedule, with the fault that decides and its line.
-use Rattle.std.specs.Prelude.{◌∷◌, ◌++◌, [], codes, refl}
+use Rattle.std.specs.Prelude.{◌∷◌, [], codes, refl}
 use Rattle.std.proofs.Common.{arith}
 use Rattle.liftcore.specs.Schedule.{HasScheduleFault, IsGoodScheduleLine}
 use Rattle.liftcore.specs.declared.error.ScheduleFault.TheVariants.{NoSuchVertex, NoSuchWorker}
@@ -7,13 +7,10 @@ use Rattle.liftcore.specs.declared.event.Event.TheVariants.{Raise, Take}
 
 -- raise 1, where there are two workers and five vertices
 raise_1 : IsGoodScheduleLine 2 5 (codes "raise 1") (Raise 1)
-raise_1 = record {
-  spelled = (codes "1" ∷ [], ((refl, refl), tt), refl);
-  within = record { worker = omega arith; vertex = tt };
-}
+raise_1 = record { spelled = (codes "1" ∷ [], ((refl, refl), tt), refl); within = record { worker = omega arith; vertex = tt } }
 
 -- the workers are 0 and 1
-no_worker : HasScheduleFault 2 5 (codes "raise 1" ++ 10 ∷ (codes "take 2 0" ++ 10 ∷ [])) NoSuchWorker 2
+no_worker : HasScheduleFault 2 5 (codes "raise 1\ntake 2 0\n") NoSuchWorker 2
 no_worker = record {
   front = codes "raise 1" ∷ [];
   line = codes "take 2 0";

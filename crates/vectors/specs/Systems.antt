@@ -57,7 +57,7 @@ v_two_states_lines : length (lines two_states_text) ≡ 3
 v_two_states_lines = refl
 
 -- tokens without blanks between them
-tight : (tokens : List (List ℕ)) → IsSpaced tokens (concat tokens)
+pub tight : (tokens : List (List ℕ)) → IsSpaced tokens (concat tokens)
 tight [] = refl
 tight (token ∷ tokens) = ([], concat tokens, refl, refl, tight tokens)
 
