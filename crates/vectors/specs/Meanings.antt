@@ -8,34 +8,28 @@ use Rattle.calculus.specs.Holds.{holds}
 use Rattle.vectors.specs.Formulas.{often_a, name_a, name_b}
 use Rattle.calculus.specs.Meaning.{Satisfies, HasArrow, Leads}
 
--- the arrow of the two-state system that stands first, and the other one
-abbrev first_arrow : HasArrow two_states 0 (codes "a") 1
-first_arrow = (0, omega arith, refl)
+-- a step by each of the two-state system's arrows
+abbrev a_step : Leads two_states (Step name_a) 0 1
+a_step = (codes "a", (0, omega arith, refl), refl)
 
-abbrev second_arrow : HasArrow two_states 1 (codes "b") 0
-second_arrow = (1, omega arith, refl)
+abbrev b_step : Leads two_states (Step name_b) 1 0
+b_step = (codes "b", (1, omega arith, refl), refl)
 
 -- both states of the two-state system are in nu X. mu Y. (<a>X || <b>Y): the a-step goes round for ever
 in_often_a : Satisfies two_states often_a 0
-in_often_a = inl (1, (codes "a", first_arrow, refl), inr (0, (codes "b", second_arrow, refl), inl (1, (codes "a", first_arrow, refl), tt)))
+in_often_a = inl (1, a_step, inr (0, b_step, inl (1, a_step, tt)))
 
 in_often_a_too : Satisfies two_states often_a 1
-in_often_a_too = inr (
-  0,
-  (codes "b", second_arrow, refl),
-  inl
-      (1, (codes "a", first_arrow, refl), inr (0, (codes "b", second_arrow, refl), inl (1, (codes "a", first_arrow, refl), tt))),
-)
+in_often_a_too = inr (0, b_step, inl (1, a_step, inr (0, b_step, inl (1, a_step, tt))))
+
+parts : {a b : Arrow} → a ≡ b → (b.source ≡ a.source) × (b.label ≡ a.label) × (b.target ≡ a.target)
+parts e = (sym (ap (λ (c : Arrow). c.source) e), sym (ap (λ (c : Arrow). c.label) e), sym (ap (λ (c : Arrow). c.target) e))
 
 -- the two-state system has no other arrows
 two_states_arrows : (s : ℕ) (label : List ℕ) (t : ℕ) → HasArrow two_states s label t → ((s ≡ 0) × (label ≡ codes "a") × (t ≡ 1))
     ⊎ ((s ≡ 1) × (label ≡ codes "b") × (t ≡ 0))
-two_states_arrows s label t (zero, h, e) = inl (sym (ap (λ (a : Arrow). a.source) e), sym (ap (λ (a : Arrow). a.label) e), sym (ap (λ (a : Arrow). a.target) e))
-two_states_arrows s label t (suc zero, h, e) = inr (
-  sym (ap (λ (a : Arrow). a.source) e),
-  sym (ap (λ (a : Arrow). a.label) e),
-  sym (ap (λ (a : Arrow). a.target) e),
-)
+two_states_arrows s label t (zero, h, e) = inl (parts e)
+two_states_arrows s label t (suc zero, h, e) = inr (parts e)
 two_states_arrows s label t (suc (suc k), h, e) = absurd (omega arith)
 
 a_only : (s t : ℕ) → Leads two_states (Step name_a) s t → (s ≡ 0) × (t ≡ 1)
@@ -68,7 +62,4 @@ stays : Leads two_states (Star (Step name_a)) 0 0
 stays = ([], refl)
 
 goes_round : Leads two_states (Plus (Then (Step name_a) (Step name_b))) 0 0
-goes_round = (0, [], round, refl)
-  where
-    round : Leads two_states (Then (Step name_a) (Step name_b)) 0 0
-    round = (1, (codes "a", first_arrow, refl), (codes "b", second_arrow, refl))
+goes_round = (0, [], (1, a_step, b_step), refl)
