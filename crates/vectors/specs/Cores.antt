@@ -13,7 +13,7 @@ use Rattle.measures.specs.Progress.{IsProgress, greater_of, opening}
 use Rattle.measures.proofs.Bests.{best_single}
 use Rattle.measures.proofs.Measures.{top_prog}
 use Rattle.liftcore.specs.Core.{Core, Worker, Idle, Holding, Owing, is_quiet, starting_core, without}
-use Rattle.liftcore.specs.Step.{TakesVertex, ReadsVertex, LiftsHeld, Pushes, Skips, Does, Step, Steps, after_raise, value_in, with_pending, with_worker}
+use Rattle.liftcore.specs.Step.{TakesVertex, ReadsVertex, LiftsHeld, Skips, Does, Step, Steps, after_raise, value_in, with_pending, with_worker}
 use Rattle.liftcore.specs.declared.event.Event.{Event}
 use Rattle.liftcore.specs.declared.event.Event.TheVariants.{Take, Read, Raise, Push}
 use Rattle.liftcore.proofs.Reached.{steps_last}

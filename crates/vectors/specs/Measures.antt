@@ -1,5 +1,5 @@
 -- Worked examples of progress measures.
-use Rattle.std.specs.Prelude.{◌≡◌, false, true, List, [], ◌∷◌, length, map, codes, refl}
+use Rattle.std.specs.Prelude.{◌≡◌, false, true, [], ◌∷◌, length, map, codes, refl}
 use Rattle.calculus.specs.Tree.{Formula, Step, Or, Dia, Var, Mu, Nu}
 use Rattle.vectors.specs.Formulas.{name_a, name_b}
 use Rattle.calculus.specs.Nodes.{nodes}
