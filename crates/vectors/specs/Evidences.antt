@@ -43,8 +43,8 @@ abbrev even_with : Option Entry → Option Entry → Option Entry → Option Ent
 even_with at_1 at_5 at_10 at_14 = record {
   player = Even;
   entries =
-      goes 0 0 ∷ at_1 ∷ goes 3 0 ∷ goes 4 1 ∷ goes 5 0 ∷ at_5 ∷ goes 2 0 ∷ None ∷ goes 3 1 ∷ goes 10 0 ∷ at_10 ∷ goes 14 1 ∷ None ∷ goes 9 0 ∷ at_14 ∷ goes
-      10 2 ∷ [];
+      goes 0 0 ∷ at_1 ∷ goes 3 0 ∷ goes 4 1 ∷ goes 5 0 ∷ at_5 ∷ goes 2 0 ∷ None ∷ goes 3 1 ∷ goes 10 0 ∷ at_10 ∷ goes 14 1 ∷ None ∷ goes 9 0 ∷ at_14
+      ∷ goes 10 2 ∷ [];
 }
 
 -- Odd's with these at 1 and 7

@@ -25,8 +25,8 @@ abbrev pub number : ℕ → Measure
 number k = Counts (k ∷ [])
 
 opening_often_a : opening often_a_game
-    ≡ number 0 ∷ Top ∷ number 0 ∷ number 0 ∷ number 0 ∷ number 0 ∷ number 0 ∷ number 0 ∷ number 0 ∷ number 0 ∷ number 0 ∷ number 0 ∷ number 0 ∷ number
-    0 ∷ number 0 ∷ number 0 ∷ []
+    ≡ number 0 ∷ Top ∷ number 0 ∷ number 0 ∷ number 0 ∷ number 0 ∷ number 0 ∷ number 0
+    ∷ number 0 ∷ number 0 ∷ number 0 ∷ number 0 ∷ number 0 ∷ number 0 ∷ number 0 ∷ number 0 ∷ []
 opening_often_a = refl
 
 -- at priority 0 a measure reaches itself
@@ -81,8 +81,8 @@ settled g table is each = (
 -- the least progress table: top where Even loses, and elsewhere how many of the vertices of priority 1 are met before one of priority 2
 abbrev pub least_often_a : List Measure
 least_often_a =
-    number 0 ∷ Top ∷ number 0 ∷ number 1 ∷ number 0 ∷ number 0 ∷ number 0 ∷ Top ∷ number 1 ∷ number 0 ∷ number 2 ∷ number 1 ∷ Top ∷ number 0 ∷ number
-    1 ∷ number 2 ∷ []
+    number 0 ∷ Top ∷ number 0 ∷ number 1 ∷ number 0 ∷ number 0 ∷ number 0 ∷ Top
+    ∷ number 1 ∷ number 0 ∷ number 2 ∷ number 1 ∷ Top ∷ number 0 ∷ number 1 ∷ number 2 ∷ []
 
 table_often_a : IsTable often_a_game least_often_a
 table_often_a = (refl, z & tt & z & o & z & z & z & tt & o & z & w & o & tt & z & o & w & tt)
@@ -96,19 +96,22 @@ table_often_a = (refl, z & tt & z & o & z & z & z & tt & o & z & w & o & tt & z 
     w : IsMeasure often_a_game (number 2)
     w = (omega arith, tt)
 
-pub progress_often_a : IsProgress often_a_game least_often_a
-progress_often_a =
+-- at each vertex the lift is its value
+settled_often_a : AllByRecursion (λ v. IsLiftAt often_a_game least_often_a v (value_at least_often_a v)) (range_with_len 0 16)
+settled_often_a =
     let one = single often_a_game least_often_a in
     let top = top_prog often_a_game in
     let zero = same 0 (omega arith) in
     let more = same 1 (omega arith) in
-    settled often_a_game least_often_a table_often_a
-    (one 0 0 0 Even (number 0) refl zero & one 1 1 1 Even Top refl (top 1) & one 2 2 3 Even (number 0) refl (prog_2 1)
+    one 0 0 0 Even (number 0) refl zero & one 1 1 1 Even Top refl (top 1) & one 2 2 3 Even (number 0) refl (prog_2 1)
     & one 3 1 4 Even (number 1) refl (prog_1 0 (omega arith)) & (vertex_at 0 Even (5 ∷ 7 ∷ []), refl, lift_even) & one 5 0 13 Even (number 0) refl zero
     & one 6 0 2 Even (number 0) refl zero & one 7 0 1 Even Top refl (top 0) & one 8 0 3 Even (number 1) refl more
     & one 9 2 10 Even (number 0) refl (prog_2 2) & one 10 1 11 Even (number 2) refl (prog_1 1 (omega arith))
     & (vertex_at 0 Even (12 ∷ 14 ∷ []), refl, lift_11 (number 1) refl) & one 12 0 1 Even Top refl (top 0) & one 13 0 9 Even (number 0) refl zero
-    & one 14 0 8 Even (number 1) refl more & one 15 0 10 Even (number 2) refl (same 2 (omega arith)) & tt)
+    & one 14 0 8 Even (number 1) refl more & one 15 0 10 Even (number 2) refl (same 2 (omega arith)) & tt
+
+pub progress_often_a : IsProgress often_a_game least_often_a
+progress_often_a = settled often_a_game least_often_a table_often_a settled_often_a
 
 -- one vertex lifted
 lifted : (table : List Measure) (v : ℕ) (m : Measure) → v < length table → IsLiftAt often_a_game table v m → IsLifted often_a_game table (slice_set table v m)
