@@ -21,7 +21,7 @@ use Rattle.liftcore.proofs.Sets.{same_eqb}
 use Rattle.vectors.specs.Systems.{two_states, ◌&◌}
 use Rattle.vectors.specs.Formulas.{name_a}
 use Rattle.vectors.specs.Games.{even_to, game_of_one_step}
-use Rattle.vectors.specs.Measures.{prog_0}
+use Rattle.vectors.specs.Measures.{prog_at_0}
 use Rattle.vectors.specs.Tables.{number, settled, single}
 
 -- <a><a>true on the two-state system
@@ -140,7 +140,7 @@ each_run =
 each_passes : Passes (starting_core game_of_one_step 2) each_run
 unfolding predecessors
 each_passes =
-    let same = prog_0 game_of_one_step (number 0) refl (omega arith, tt) in
+    let same = prog_at_0 game_of_one_step (number 0) refl (omega arith, tt) in
     takes refl (0, omega arith, refl) refl & reads 0 0 refl refl refl & lifts 0 0 0 (number 0) refl refl same refl
     & takes refl (0, omega arith, refl) refl & reads 1 1 refl refl refl & lifts 1 1 1 Top refl refl (top_prog game_of_one_step 1) refl
     & takes refl (0, omega arith, refl) refl & reads 2 0 refl refl refl & lifts 2 0 5 (number 0) refl refl same refl
@@ -187,7 +187,7 @@ late_passes : Passes (starting_core two_steps 2) late_run
 unfolding predecessors
 late_passes =
     takes refl (2, omega arith, refl) refl & reads 2 0 refl refl refl & takes refl (5, omega arith, refl) refl & reads 6 0 refl refl refl
-    & lifts 6 0 1 Top refl refl (top_prog two_steps 0) refl & lifts 2 0 6 (number 0) refl refl (prog_0 two_steps (number 0) refl (omega arith, tt)) refl
+    & lifts 6 0 1 Top refl refl (top_prog two_steps 0) refl & lifts 2 0 6 (number 0) refl refl (prog_at_0 two_steps (number 0) refl (omega arith, tt)) refl
     & record { owed = 2 ∷ []; owes = refl; among = (0, omega arith, refl); effect = refl } & takes refl (2, omega arith, refl) refl
     & reads 2 0 refl refl refl & lifts 2 0 6 Top refl refl (top_prog two_steps 0) refl & takes refl (4, omega arith, refl) refl & reads 5 0 refl refl refl
     & lifts 5 0 1 Top refl refl (top_prog two_steps 0) refl & tt
@@ -204,7 +204,7 @@ pub first_settled : IsProgress game_of_one_step (one_table Top)
 first_settled =
     let one = single game_of_one_step (one_table Top) in
     let top = top_prog game_of_one_step in
-    let same = prog_0 game_of_one_step (number 0) refl (omega arith, tt) in
+    let same = prog_at_0 game_of_one_step (number 0) refl (omega arith, tt) in
     settled game_of_one_step (one_table Top) (refl, (omega arith, tt) & tt & (omega arith, tt) & (omega arith, tt) & tt & (omega arith, tt) & tt)
     (one 0 0 0 Even (number 0) refl same & one 1 1 1 Even Top refl (top 1) & one 2 0 5 Even (number 0) refl same & one 3 0 0 Even (number 0) refl same
     & one 4 0 1 Even Top refl (top 0) & one 5 0 0 Even (number 0) refl same & tt)
@@ -213,7 +213,7 @@ pub late_settled : IsProgress two_steps (two_table Top Top Top)
 late_settled =
     let one = single two_steps (two_table Top Top Top) in
     let top = top_prog two_steps in
-    let same = prog_0 two_steps (number 0) refl (omega arith, tt) in
+    let same = prog_at_0 two_steps (number 0) refl (omega arith, tt) in
     settled two_steps (two_table Top Top Top)
     (refl, (omega arith, tt) & tt & tt & (omega arith, tt) & (omega arith, tt) & tt & tt & (omega arith, tt) & tt)
     (one 0 0 0 Even (number 0) refl same & one 1 1 1 Even Top refl (top 1) & one 2 0 6 Even Top refl (top 0) & one 3 0 7 Even (number 0) refl same

@@ -22,7 +22,7 @@ use Rattle.laws.proofs.Lists.{all_gives, gives_range, of_two}
 use Rattle.evidence.proofs.Tested.{judged_right}
 use Rattle.vectors.specs.Systems.{◌&◌}
 use Rattle.vectors.specs.Games.{even_to, often_a_game, vertex_at}
-use Rattle.vectors.specs.Measures.{prog_0}
+use Rattle.vectors.specs.Measures.{prog_at_0}
 use Rattle.vectors.specs.Tables.{least_often_a, least_table_often_a, number}
 
 -- Even's ranks count priority 1, and Odd's 2 and 0
@@ -167,7 +167,7 @@ best_11 = (
   where
     never : IsLeastSuccessor often_a_game least_often_a (vertex_at 0 Even (12 ∷ 14 ∷ [])) 12 → ⊥
     never is =
-        let one = prog_0 often_a_game (number 1) refl (omega arith, tt) in
+        let one = prog_at_0 often_a_game (number 1) refl (omega arith, tt) in
         true≢false (sym (is.least 14 (1, omega arith, refl) Top (number 1) (top_prog often_a_game 0) one))
 
 abbrev Inside : ℕ → Type 0

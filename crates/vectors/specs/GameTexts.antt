@@ -4,7 +4,7 @@ use Rattle.std.proofs.Common.{arith, inl, inr}
 use Rattle.game.specs.declared.player.Player.TheVariants.{Even}
 use Rattle.pgsolver.specs.Fault.{FaultyLine, HasPgFault}
 use Rattle.pgsolver.specs.Spelling.{AreGoodLines, IsPgHeader, IsLine, VertexLine}
-use Rattle.vectors.specs.Systems.{tight}
+use Rattle.vectors.specs.Systems.{without_blanks}
 use Rattle.pgsolver.specs.declared.error.PgFault.TheVariants.{BadHeader, BadIdentifier}
 
 -- the empty text has no header
@@ -34,7 +34,7 @@ line_1 = record {
   successors = ((refl, refl), tt);
   gaps = ((32, refl, refl), (32, refl, refl), (32, refl, refl));
   named = tt;
-  spaced = tight (codes "1" ∷ codes " " ∷ codes "0" ∷ codes " " ∷ codes "0" ∷ codes " " ∷ codes "0" ∷ codes ";" ∷ []);
+  spaced = without_blanks (codes "1" ∷ codes " " ∷ codes "0" ∷ codes " " ∷ codes "0" ∷ codes " " ∷ codes "0" ∷ codes ";" ∷ []);
 }
 
 nothing_before : AreGoodLines 0 [] []

@@ -84,6 +84,7 @@ wins e v long fit good inside = good_wins game_of_one_step e
     (record { long = long; entries = λ u x h. subst (Fits e.player) h (all_or (Fits e.player) e.entries u None fit tt) })
     (subst (IsVerdict game_of_one_step e) good (judged_right game_of_one_step e)) v inside
 
+-- an entry with a move of Even's
 abbrev to : ℕ → Entry
 to t = record { move = Some t; rank = 0 ∷ [] }
 
@@ -96,6 +97,7 @@ wins_one_step =
     wins (record { player = Even; entries = Some (to 0) ∷ None ∷ Some (to 5) ∷ None ∷ None ∷ Some (to 0) ∷ [] }) 2 refl
     (is_entry 0 (omega arith) & tt & is_entry 5 (omega arith) & tt & tt & is_entry 0 (omega arith) & tt) refl refl
 
+-- an entry of Odd's at a vertex of Even's
 abbrev to_sink : ℕ → Entry
 to_sink k = record { move = None; rank = k ∷ [] }
 

@@ -46,14 +46,14 @@ prog_carry =
     least_prog three_binder_game 1 (0 ∷ 3 ∷ []) (1 ∷ 0 ∷ []) (raised (count three_binder_game) 3 (1 ∷ []) true 1 0 (3 ∷ []) (omega arith) last)
 
 -- at priority 0 a measure reaches itself
-pub prog_0 : (g : Game) (m : Measure) → kept g 0 ≡ length (components g) → IsMeasure g m → IsProg g 0 m m
-prog_0 g Top all h = top_prog g 0
-prog_0 g (Counts c) all h = least_prog g 0 c c
+pub prog_at_0 : (g : Game) (m : Measure) → kept g 0 ≡ length (components g) → IsMeasure g m → IsProg g 0 m m
+prog_at_0 g Top all h = top_prog g 0
+prog_at_0 g (Counts c) all h = least_prog g 0 c c
     (record { bounded = h; over = over_itself (kept g 0) c; least = λ x b o. subst (λ k. Over false k c x) all o })
 
 -- at priority 0 of (1,3): (1,3)
 prog_even : IsProg three_binder_game 0 (Counts (1 ∷ 3 ∷ [])) (Counts (1 ∷ 3 ∷ []))
-prog_even = prog_0 three_binder_game (Counts (1 ∷ 3 ∷ [])) refl (omega arith, (omega arith, tt))
+prog_even = prog_at_0 three_binder_game (Counts (1 ∷ 3 ∷ [])) refl (omega arith, (omega arith, tt))
 
 -- four measures are below (1,0), those from (0,0) to (0,3): its rank is 4
 rank_carry : IsRank three_binder_game (Counts (1 ∷ 0 ∷ [])) 4

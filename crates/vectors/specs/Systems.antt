@@ -56,24 +56,24 @@ set_of_three = refl
 v_two_states_lines : length (lines two_states_text) ≡ 3
 v_two_states_lines = refl
 
--- tokens without blanks between them
-pub tight : (tokens : List (List ℕ)) → IsSpaced tokens (concat tokens)
-tight [] = refl
-tight (token ∷ tokens) = ([], concat tokens, refl, refl, tight tokens)
+-- a line that is its tokens alone
+pub without_blanks : (tokens : List (List ℕ)) → IsSpaced tokens (concat tokens)
+without_blanks [] = refl
+without_blanks (token ∷ tokens) = ([], concat tokens, refl, refl, without_blanks tokens)
 
--- a header with one blank
+-- a header's line with one blank
 pub header : (i m n : List ℕ) → IsTrue (is_numeral i) → IsTrue (is_numeral m) → IsTrue (is_numeral n)
     → IsAutHeader (codes "des " ++ concat (codes "(" ∷ i ∷ codes "," ∷ m ∷ codes "," ∷ n ∷ codes ")" ∷ [])) (value_of i) (value_of m) (value_of n)
 header i m n initial count states =
     let counts = i ∷ codes "," ∷ m ∷ codes "," ∷ n ∷ codes ")" ∷ [] in
     let spaced = codes " (" ++ concat counts in
-    (i, m, n, (initial, refl), (count, refl), (states, refl), ([], spaced, refl, refl, (codes " ", concat counts, refl, refl, tight counts)))
+    (i, m, n, (initial, refl), (count, refl), (states, refl), ([], spaced, refl, refl, (codes " ", concat counts, refl, refl, without_blanks counts)))
 
 -- a transition's line without blanks
 pub transition : (s label t : List ℕ) → IsTrue (is_numeral s) → IsTrue (is_numeral t) → IsFalse (list_any (λ b. b == 34) label)
     → IsTransition (concat (codes "(" ∷ s ∷ codes "," ∷ (34 ∷ label ++ 34 ∷ []) ∷ codes "," ∷ t ∷ codes ")" ∷ [])) (arrow (value_of s) label (value_of t))
 transition s label t source target plain =
-    (s, t, (source, refl), (target, refl), plain, tight (codes "(" ∷ s ∷ codes "," ∷ (34 ∷ label ++ 34 ∷ []) ∷ codes "," ∷ t ∷ codes ")" ∷ []))
+    (s, t, (source, refl), (target, refl), plain, without_blanks (codes "(" ∷ s ∷ codes "," ∷ (34 ∷ label ++ 34 ∷ []) ∷ codes "," ∷ t ∷ codes ")" ∷ []))
 
 pub two_states_header : IsAutHeader (codes "des (0,2,2)") 0 2 2
 two_states_header = header (codes "0") (codes "2") (codes "2") refl refl refl

@@ -19,7 +19,7 @@ use Rattle.measures.proofs.Plain.{value_set_other, value_set_same}
 use Rattle.laws.proofs.Lists.{gives_range}
 use Rattle.vectors.specs.Systems.{◌&◌}
 use Rattle.vectors.specs.Games.{even_to, vertex_at, often_a_game, is_game_often_a}
-use Rattle.vectors.specs.Measures.{prog_0}
+use Rattle.vectors.specs.Measures.{prog_at_0}
 
 abbrev pub number : ℕ → Measure
 number k = Counts (k ∷ [])
@@ -30,8 +30,8 @@ opening_often_a : opening often_a_game
 opening_often_a = refl
 
 -- at priority 0 a measure reaches itself
-same : (k : ℕ) → k ≤ 3 → IsProg often_a_game 0 (number k) (number k)
-same k h = prog_0 often_a_game (number k) refl (h, tt)
+prog_0 : (k : ℕ) → k ≤ 3 → IsProg often_a_game 0 (number k) (number k)
+prog_0 k h = prog_at_0 often_a_game (number k) refl (h, tt)
 
 -- at priority 1 it takes one more
 prog_1 : (k : ℕ) → suc k ≤ 3 → IsProg often_a_game 1 (number k) (number (suc k))
@@ -48,10 +48,10 @@ prog_2 k = least_prog often_a_game 2 (k ∷ []) (0 ∷ [])
 
 -- Even takes the least of the successors' values, Odd the greatest, and no vertex falls below its own
 lift_even : IsLift often_a_game (vertex_at 0 Even (5 ∷ 7 ∷ [])) (number 0) (number 0 ∷ Top ∷ []) (number 0)
-lift_even = (number 0 ∷ Top ∷ [], number 0, same 0 (omega arith) & top_prog often_a_game 0 & tt, ((0, omega arith, refl), refl & refl & tt), refl)
+lift_even = (number 0 ∷ Top ∷ [], number 0, prog_0 0 (omega arith) & top_prog often_a_game 0 & tt, ((0, omega arith, refl), refl & refl & tt), refl)
 
 lift_odd : IsLift often_a_game (vertex_at 0 Odd (5 ∷ 7 ∷ [])) (number 0) (number 0 ∷ Top ∷ []) Top
-lift_odd = (number 0 ∷ Top ∷ [], Top, same 0 (omega arith) & top_prog often_a_game 0 & tt, ((1, omega arith, refl), refl & refl & tt), refl)
+lift_odd = (number 0 ∷ Top ∷ [], Top, prog_0 0 (omega arith) & top_prog often_a_game 0 & tt, ((1, omega arith, refl), refl & refl & tt), refl)
 
 lift_last : IsLift often_a_game (even_to 1 4) (number 2) (number 3 ∷ []) Top
 lift_last = (Top ∷ [], Top, (prog_1_last, tt), best_single Even Top, refl)
@@ -61,7 +61,7 @@ lift_own = (number 0 ∷ [], number 0, (prog_2 3, tt), best_single Even (number 
 
 -- at vertex 11 the value is taken from vertex 14
 lift_11 : (own : Measure) → number 1 ≡ greater_of own (number 1) → IsLift often_a_game (vertex_at 0 Even (12 ∷ 14 ∷ [])) own (Top ∷ number 1 ∷ []) (number 1)
-lift_11 own is = (Top ∷ number 1 ∷ [], number 1, top_prog often_a_game 0 & same 1 (omega arith) & tt, ((1, omega arith, refl), refl & refl & tt), is)
+lift_11 own is = (Top ∷ number 1 ∷ [], number 1, top_prog often_a_game 0 & prog_0 1 (omega arith) & tt, ((1, omega arith, refl), refl & refl & tt), is)
 
 -- the lift at a vertex with one successor
 pub single : (g : Game) (table : List Measure) (v p t : ℕ) (o : Player) (r : Measure) → vertex g v ≡ Some (vertex_at p o (t ∷ [])) → IsProg g p (value_at table t) r
@@ -101,14 +101,14 @@ settled_often_a : AllByRecursion (λ v. IsLiftAt often_a_game least_often_a v (v
 settled_often_a =
     let one = single often_a_game least_often_a in
     let top = top_prog often_a_game in
-    let zero = same 0 (omega arith) in
-    let more = same 1 (omega arith) in
+    let zero = prog_0 0 (omega arith) in
+    let number_1 = prog_0 1 (omega arith) in
     one 0 0 0 Even (number 0) refl zero & one 1 1 1 Even Top refl (top 1) & one 2 2 3 Even (number 0) refl (prog_2 1)
     & one 3 1 4 Even (number 1) refl (prog_1 0 (omega arith)) & (vertex_at 0 Even (5 ∷ 7 ∷ []), refl, lift_even) & one 5 0 13 Even (number 0) refl zero
-    & one 6 0 2 Even (number 0) refl zero & one 7 0 1 Even Top refl (top 0) & one 8 0 3 Even (number 1) refl more
+    & one 6 0 2 Even (number 0) refl zero & one 7 0 1 Even Top refl (top 0) & one 8 0 3 Even (number 1) refl number_1
     & one 9 2 10 Even (number 0) refl (prog_2 2) & one 10 1 11 Even (number 2) refl (prog_1 1 (omega arith))
     & (vertex_at 0 Even (12 ∷ 14 ∷ []), refl, lift_11 (number 1) refl) & one 12 0 1 Even Top refl (top 0) & one 13 0 9 Even (number 0) refl zero
-    & one 14 0 8 Even (number 1) refl more & one 15 0 10 Even (number 2) refl (same 2 (omega arith)) & tt
+    & one 14 0 8 Even (number 1) refl number_1 & one 15 0 10 Even (number 2) refl (prog_0 2 (omega arith)) & tt
 
 pub progress_often_a : IsProgress often_a_game least_often_a
 progress_often_a = settled often_a_game least_often_a table_often_a settled_often_a
@@ -139,10 +139,10 @@ rise {table} v p t r h at is = lifted table v (greater_of (value_at table v) r) 
 lifts_often_a : AreLifts often_a_game (opening often_a_game) lifted_tables least_often_a
 lifts_often_a =
     rise 7 0 1 Top (omega arith) refl (top_prog often_a_game 0) & rise 12 0 1 Top (omega arith) refl (top_prog often_a_game 0)
-    & rise 3 1 4 (number 1) (omega arith) refl (prog_1 0 (omega arith)) & rise 8 0 3 (number 1) (omega arith) refl (same 1 (omega arith))
-    & rise 14 0 8 (number 1) (omega arith) refl (same 1 (omega arith))
+    & rise 3 1 4 (number 1) (omega arith) refl (prog_1 0 (omega arith)) & rise 8 0 3 (number 1) (omega arith) refl (prog_0 1 (omega arith))
+    & rise 14 0 8 (number 1) (omega arith) refl (prog_0 1 (omega arith))
     & lifted _ 11 (number 1) (omega arith) (vertex_at 0 Even (12 ∷ 14 ∷ []), refl, lift_11 (number 0) refl)
-    & rise 10 1 11 (number 2) (omega arith) refl (prog_1 1 (omega arith)) & rise 15 0 10 (number 2) (omega arith) refl (same 2 (omega arith)) & refl
+    & rise 10 1 11 (number 2) (omega arith) refl (prog_1 1 (omega arith)) & rise 15 0 10 (number 2) (omega arith) refl (prog_0 2 (omega arith)) & refl
 
 -- eight lifts from the opening table come to it
 pub least_table_often_a : IsLeastTable often_a_game least_often_a
