@@ -16,12 +16,11 @@ const LOOKED_AT: u64 = 80;
 
 /// Tells where the formula of a file is at fault, as a check does. What came from standard input or a pipe can't be read again.
 pub fn tell_fault(rt: &HostRuntime, system: &Lts, strict: bool, name: &str) {
-    if !lasts(rt, name) {
-        return;
-    }
-    if let Some(error @ (MuError::Formula(_) | MuError::NoLabel { .. })) = fault_of(
-        rt, system, strict, name,
-    ) {
+    if lasts(rt, name)
+        && let Some(error @ (MuError::Formula(_) | MuError::NoLabel { .. })) = fault_of(
+            rt, system, strict, name,
+        )
+    {
         // Where standard error fails too, the line of the table tells.
         let _ = tell(rt, &[None, Some(name), None, None], &Refusal::from(error));
     }

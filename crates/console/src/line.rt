@@ -9,10 +9,10 @@ use game::gauge::{Gauge, GaugeReading};
 use game::observer::{Observer, Stage};
 use lts::system::Lts;
 use requests::watch::Watcher;
-use std::alloc::{AllocError, Global};
+use std::alloc::Global;
 use std::io::{IsTerminal, Write};
 use std::sync::{Arc, Condvar, Mutex, Wait};
-use std::thread::{JoinHandle, Threads};
+use std::thread::JoinHandle;
 use std::time::{Clock, Duration, Instant};
 use std::{fmt, io, thread};
 use workers::runtime::Runtime;
@@ -32,9 +32,6 @@ const CUT: &str = "\x1b[?7l";
 
 /// What stands behind it: other lines are not cut.
 const WHOLE: &str = "\x1b[?7h\n";
-
-/// How many bytes are a megabyte.
-const MEGABYTE: u64 = 1_000_000;
 
 /// The handle by which a thread writes the line, some times a second.
 pub trait TimedRuntime: Runtime + Clock + 'static {}
@@ -63,13 +60,11 @@ struct SharedLine {
 
 impl SharedLine {
     fn new() -> SharedLine {
+        let (is_drawn, is_over) = (false, false);
         SharedLine {
             step: Mutex::new(Activity::Seen(Stage::ReadingSystem)),
             gauge: Gauge::new(),
-            screen: Mutex::new(Screen {
-                is_drawn: false,
-                is_over: false,
-            }),
+            screen: Mutex::new(Screen { is_drawn, is_over }),
             over: Condvar::new(),
         }
     }
@@ -89,7 +84,7 @@ impl fmt::Display for Progress {
         };
         match self.step {
             Activity::ReadingGame | Activity::Seen(Stage::ReadingSystem | Stage::ReadingFormula) =>
-                { write!(f, ", {} of {} MB", done / MEGABYTE, whole / MEGABYTE) }
+                { write!(f, ", {} of {} MB", done / 1_000_000, whole / 1_000_000) }
             Activity::Seen(Stage::Building { .. }) => write!(f, ", {done} of {whole} vertices"),
             Activity::Seen(Stage::Searching { .. }) => {
                 let spent = done.saturating_mul(100).checked_div(whole);
@@ -127,10 +122,8 @@ fn tick<T: Wait + Clock>(rt: HostRuntime, handle: &T, place: &SharedLine) {
 fn draw(rt: HostRuntime, place: &SharedLine, step: Activity, is_drawn: bool, seconds: u64) -> bool {
     let reading = place.gauge.reading();
     let progress = Progress { step, reading };
-    let line: Result<String, AllocError> = format!(in rt.alloc();
-        "{CUT}mucheck: {step}{progress}, {seconds} s{WHOLE}"
-    );
-    let Ok(line) = line else {
+    let line = format!(in rt.alloc(); "{CUT}mucheck: {step}{progress}, {seconds} s{WHOLE}");
+    let Some(line) = line.ok() else {
         return is_drawn;
     };
     if is_drawn && rt.stderr().write_all(CLEAR).is_err() {
@@ -154,37 +147,48 @@ pub struct ProgressLine<'a, T> {
 }
 
 impl<'a, T: TimedRuntime> ProgressLine<'a, T> {
-    /// A line for a run that begins now. Where this is one of several, notes name its formula's file.
-    pub fn new(
-        rt: HostRuntime,
+    /// A line for a run that begins now, and the thread that writes it, where there is one. Where the run is one of several, notes name its formula's
+    /// file.
+    pub fn start(
+        rt: &HostRuntime,
         handle: &'a T,
         stats: Stats,
         name: Option<&'a str>,
-    ) -> ProgressLine<'a, T> {
+    ) -> (ProgressLine<'a, T>, Option<JoinHandle<()>>) {
         let place = if rt.stderr().is_terminal() {
             Arc::new(rt.alloc(), SharedLine::new()).ok()
         } else {
             None
         };
-        ProgressLine {
-            rt,
+        let line = ProgressLine {
+            rt: *rt,
             handle,
             place,
             running: Mutex::new(None),
             stats,
             name,
-        }
+        };
+        let ticker = line.ticker();
+        (line, ticker)
     }
 
-    /// The thread that writes the line, where there is one.
-    pub fn start(&self) -> Option<JoinHandle<()>> {
+    fn ticker(&self) -> Option<JoinHandle<()>> {
         let place = Arc::try_clone(self.place.as_ref()?).ok()?;
         let (rt, handle) = (self.rt, *self.handle);
         thread::spawn(self.handle, move || tick(rt, &handle, &place)).ok()
     }
+
+    /// The run has ended: nothing is told any more, and the thread that wrote the line, if there was one, ends.
+    pub fn finish(self, ticker: Option<JoinHandle<()>>) {
+        self.end();
+        self.end_steps();
+        if let Some(ticker) = ticker {
+            ticker.join(self.handle);
+        }
+    }
 }
 
-impl<T: Wait> ProgressLine<'_, T> {
+impl<T: Wait + Clock> ProgressLine<'_, T> {
     /// Takes the line away for good.
     pub fn end(&self) {
         if let Some(place) = &self.place {
@@ -215,20 +219,7 @@ impl<T: Wait> ProgressLine<'_, T> {
         }
         Ok(())
     }
-}
 
-impl<T: Threads + Wait + Clock> ProgressLine<'_, T> {
-    /// The run has ended: nothing is told any more, and the thread that wrote the line, if there was one, ends.
-    pub fn finish(&self, ticker: Option<JoinHandle<()>>) {
-        self.end();
-        self.end_steps();
-        if let Some(ticker) = ticker {
-            ticker.join(self.handle);
-        }
-    }
-}
-
-impl<T: Wait + Clock> ProgressLine<'_, T> {
     /// The step begins, or goes on; what went on before has ended.
     pub fn step(&self, step: Activity) {
         if let Some(place) = &self.place {
@@ -246,23 +237,20 @@ impl<T: Wait + Clock> ProgressLine<'_, T> {
 
     fn begin(&self, step: Activity) {
         let mut running = self.running.lock(self.handle);
-        *running = match *running {
-            Some(Running { step: now, since }) if now.goes_on(step) => {
-                Some(Running { step, since })
-            }
+        let since = match *running {
+            Some(Running { step: now, since }) if now.goes_on(step) => Some(since),
             before => {
                 self.tell_ended(before);
-                let now = Instant::now(self.handle).ok();
-                now.map(|since| Running { step, since })
+                Instant::now(self.handle).ok()
             }
         };
+        *running = since.map(|since| Running { step, since });
     }
 
     /// The last step has ended.
-    pub fn end_steps(&self) {
+    fn end_steps(&self) {
         let mut running = self.running.lock(self.handle);
-        self.tell_ended(*running);
-        *running = None;
+        self.tell_ended(running.take());
     }
 
     // Writes what is told, if there was memory for it.
@@ -280,13 +268,11 @@ impl<T: Wait + Clock> ProgressLine<'_, T> {
 
 impl<T: Wait + Clock> Observer for ProgressLine<'_, T> {
     fn sees(&self, stage: Stage) {
-        match stage {
-            Stage::Worked { .. } if self.stats.are_told() => {
-                let worked = Activity::Seen(stage);
-                self.tell_made(format!(in self.rt.alloc(); "mucheck: {worked}\n").ok());
-            }
-            Stage::Worked { .. } => {}
-            _ => self.step(Activity::Seen(stage)),
+        let seen = Activity::Seen(stage);
+        if !matches!(stage, Stage::Worked { .. }) {
+            self.step(seen);
+        } else if self.stats.are_told() {
+            self.tell_made(format!(in self.rt.alloc(); "mucheck: {seen}\n").ok());
         }
     }
 

@@ -1,6 +1,6 @@
 // Notes on the words of a formula that no label of a system has.
 
-use crate::told::{FileName, say};
+use crate::told::FileName;
 use formula::strange::Word;
 use lts::system::Lts;
 use std::io;
@@ -16,7 +16,7 @@ pub fn note_all(
     words: &[Word<'_>],
 ) -> io::Result<()> {
     for word in words {
-        say(&rt, &["mucheck: note: "])?;
+        eprint!(rt; "mucheck: note: ")?;
         if let Some(file) = file {
             eprint!(rt; "{}: ", FileName(file))?;
         }
@@ -33,7 +33,7 @@ fn note_one(rt: HostRuntime, system: &Lts, word: Word<'_>) -> io::Result<()> {
     let (front, rest) = shortened(bytes);
     eprint!(rt; "{quote}{front}{rest}{quote}{what}")?;
     let Some(near) = nearest(system, word, 1).or(nearest(system, word, 2)) else {
-        return say(&rt, &["\n"]);
+        return eprintln!(rt; "");
     };
     let (front, rest) = shortened(near);
     eprintln!(rt; "; did you mean {quote}{front}{rest}{quote}?")
@@ -73,34 +73,27 @@ fn near_name<'a>(names: &'a [Vec<u8>], word: &[u8], edits: usize) -> Option<&'a 
 pub(crate) fn is_near(word: &[u8], other: &[u8], edits: usize) -> bool {
     match edits {
         1 => word.len() > 2 && differ_by_one(word, other),
-        _ => word.len() > 4 && differ_by_two(word, other),
+        _ => {
+            let rests = past_edit(word, other);
+            word.len() > 4 && rests.iter().any(|(one, other)| differ_by_one(one, other))
+        }
     }
 }
 
-/// Whether one is made from the other one by one edit at most, which takes a byte away, puts one in, or changes one.
+/// Whether one is made from the other one by one edit at most.
 fn differ_by_one(one: &[u8], other: &[u8]) -> bool {
-    let (one, other) = past_same(one, other);
-    let (past_one, past_other) = (past_first(one), past_first(other));
-    one == past_other || past_one == other || past_one == past_other
+    let rests = past_edit(one, other);
+    rests.iter().any(|(one, other)| one == other)
 }
 
-fn differ_by_two(one: &[u8], other: &[u8]) -> bool {
-    let (one, other) = past_same(one, other);
-    let (past_one, past_other) = (past_first(one), past_first(other));
-    differ_by_one(one, past_other)
-        || differ_by_one(past_one, other)
-        || differ_by_one(past_one, past_other)
-}
-
-/// What stands in both behind the bytes with which they begin alike.
-fn past_same<'a>(one: &'a [u8], other: &'a [u8]) -> (&'a [u8], &'a [u8]) {
+/// What stands in both behind the first byte in which they differ, as an edit puts it in, takes it away, or changes it.
+fn past_edit<'a>(one: &'a [u8], other: &'a [u8]) -> [(&'a [u8], &'a [u8]); 3] {
     let same = one.iter().zip(other).take_while(|(a, b)| a == b).count();
-    (
-        one.get(same..).unwrap_or(&[]),
-        other.get(same..).unwrap_or(&[]),
-    )
+    let (one, other) = (past(one, same), past(other, same));
+    let (past_one, past_other) = (past(one, 1), past(other, 1));
+    [(one, past_other), (past_one, other), (past_one, past_other)]
 }
 
-fn past_first(bytes: &[u8]) -> &[u8] {
-    bytes.get(1..).unwrap_or(&[])
+fn past(bytes: &[u8], count: usize) -> &[u8] {
+    bytes.get(count..).unwrap_or(&[])
 }

@@ -2,16 +2,13 @@
 
 use crate::notes::is_near;
 use crate::sight::{Finding, NOTHING_FOUND, find};
-use crate::told::{FileName, say};
+use crate::told::FileName;
 use command_line::codes::code_entry;
 use command_line::inputs::is_standard_input;
 use requests::error::{ArgumentError, MuError};
 use std::fs::File;
 use std::io::{ErrorKind, Read};
 use std::{fs, io};
-
-/// Where a tip begins.
-const TIP: &str = "\n\n  tip: ";
 
 /// The codes of a read that failed.
 const READ_FAULTS: [&str; 4] = ["A8", "U3", "G7", "E4"];
@@ -34,23 +31,9 @@ impl Cause {
 /// Why there is no answer.
 #[derive(Drop)]
 pub struct Refusal {
-    pub(crate) error: MuError,
-    pub(crate) cause: Option<Cause>,
-}
-
-impl Refusal {
-    /// A file of this name could not be opened.
-    pub fn of_file(rt: &HostRuntime, name: &str, why: io::Error) -> Refusal {
-        Refusal {
-            error: MuError::File,
-            cause: Cause::of(rt, name, why),
-        }
-    }
-
     /// What the exit status goes by.
-    pub fn into_error(self) -> MuError {
-        self.error
-    }
+    pub error: MuError,
+    pub(crate) cause: Option<Cause>,
 }
 
 impl From<MuError> for Refusal {
@@ -92,13 +75,13 @@ pub fn tell(rt: &HostRuntime, files: &[Option<&str>; 4], refusal: &Refusal) -> i
 
 /// Tells what is wrong with the words of a command line, without a tip, and the usage that goes with it, unless it names what is near to one of them.
 fn tell_wrong_words(rt: &HostRuntime, text: &str) -> io::Result<()> {
-    say(rt, &["mucheck: U1\n"])?;
-    match text.split_once(TIP) {
+    eprintln!(rt; "mucheck: U1")?;
+    match text.split_once("\n\n  tip: ") {
         Some((wrong, rest)) if !names_near(wrong, rest) => match rest.rsplit_once("\n\n") {
-            Some((_, end)) => say(rt, &[wrong, "\n\n", end]),
-            None => say(rt, &[wrong, "\n"]),
+            Some((_, end)) => eprint!(rt; "{wrong}\n\n{end}"),
+            None => eprintln!(rt; "{wrong}"),
         },
-        _ => say(rt, &[text]),
+        _ => eprint!(rt; "{text}"),
     }
 }
 
@@ -135,14 +118,14 @@ fn tell_rest(
             return tell_cause(rt, code, name, &error);
         }
     }
-    tell_in_files(rt, code, files, words)
+    tell_in(rt, code, files, words)
 }
 
 /// What the system says of a file, and what is to be done.
 fn tell_cause(rt: &HostRuntime, code: &str, name: &str, error: &io::Error) -> io::Result<()> {
     eprintln!(rt; "mucheck: {}: {error}", FileName(name))?;
     match code_entry(code) {
-        Some(entry) => say(rt, &["mucheck: ", entry.remedy, "\n"]),
+        Some(entry) => eprintln!(rt; "mucheck: {}", entry.remedy),
         None => Ok(()),
     }
 }
@@ -158,12 +141,7 @@ fn unreadable(rt: &HostRuntime, name: &str) -> Option<io::Error> {
 }
 
 /// Tells in which file it is, or of which of two, and where, what is wrong and what is to be done.
-fn tell_in_files(
-    rt: &HostRuntime,
-    code: &str,
-    files: [Option<&str>; 2],
-    words: &str,
-) -> io::Result<()> {
+fn tell_in(rt: &HostRuntime, code: &str, files: [Option<&str>; 2], words: &str) -> io::Result<()> {
     let comma = if words.is_empty() { "" } else { ", " };
     match files {
         [Some(name), None] if words.is_empty() => eprintln!(rt; "mucheck: in {}", FileName(name))?,
@@ -189,13 +167,7 @@ fn tell_at(rt: &HostRuntime, code: &str, name: &str, words: &str) -> io::Result<
     };
     let name = FileName(name);
     match &found.sight {
-        Some(sight) => {
-            match (sight.line, sight.column) {
-                (line, Some(column)) => eprintln!(rt; "mucheck: in {name}:{line}:{column}")?,
-                (line, None) => eprintln!(rt; "mucheck: in {name}:{line}")?,
-            }
-            sight.tell(rt)?;
-        }
+        Some(sight) => sight.tell(rt, name)?,
         None => eprintln!(rt; "mucheck: in {name}, {words}")?,
     }
     tell_end(rt, code, found)
@@ -206,10 +178,7 @@ fn tell_end(rt: &HostRuntime, code: &str, found: Finding) -> io::Result<()> {
     let Some(entry) = code_entry(code) else {
         return Ok(());
     };
-    match &found.wrong {
-        Some(wrong) => eprintln!(rt; "mucheck: {}", wrong.as_str())?,
-        None => eprintln!(rt; "mucheck: {}", entry.wrong)?,
-    }
+    let wrong = found.wrong.as_deref().unwrap_or(entry.wrong);
     let remedy = found.remedy.unwrap_or(entry.remedy);
-    eprintln!(rt; "mucheck: {remedy}")
+    eprintln!(rt; "mucheck: {wrong}\nmucheck: {remedy}")
 }

@@ -5,7 +5,6 @@ use command_line::names::{EvidenceNames, has_ending, is_device};
 use command_line::request::Command;
 use requests::error::{ArgumentError, CheckFile, MuError};
 use requests::request::ReportForm;
-use std::alloc::AllocError;
 use std::fs;
 use std::io::ErrorKind;
 use std::os::unix::fs::MetadataExt;
@@ -44,80 +43,57 @@ pub fn keep_apart(
     }
     let outputs = command.outputs();
     if outputs.witness.is_some_and(is_picture) {
-        return Err(refused(String::from_str(rt.alloc(), NO_PICTURE)));
+        return Err(refused(String::from_str(rt.alloc(), NO_PICTURE)?));
     }
     let [main, formula, ..] = command.files();
     let even = evidence.map(|names| names.even.as_str());
     let odd = evidence.map(|names| names.odd.as_str());
-    all_apart(
-        &[
-            place_of(rt, CheckFile::Game, outputs.game),
-            place_of(rt, CheckFile::EvenEvidence, even),
-            place_of(rt, CheckFile::OddEvidence, odd),
-            place_of(rt, CheckFile::Witness, outputs.witness),
-            reported(rt, outputs.report),
-        ],
-        &[
-            read(rt, command.main_file(), main),
-            read(rt, CheckFile::Formula, formula),
-        ],
-    )
-    .map_err(MuError::Arguments)
+    let files = [
+        place_of(rt, CheckFile::Game, outputs.game),
+        place_of(rt, CheckFile::EvenEvidence, even),
+        place_of(rt, CheckFile::OddEvidence, odd),
+        place_of(rt, CheckFile::Witness, outputs.witness),
+        reported(rt, outputs.report),
+        read(rt, command.main_file(), main),
+        read(rt, CheckFile::Formula, formula),
+    ];
+    // (the last two are only read)
+    for at in 0..5 {
+        apart_from(&files[at], &files[at + 1..]).map_err(MuError::Arguments)?;
+    }
+    Ok(())
 }
 
 /// Whether the name ends as that of a picture, which isn't written.
 fn is_picture(name: &str) -> bool {
-    let name = name.as_bytes();
-    PICTURES
-        .iter()
-        .any(|ending| has_ending(name, ending.as_bytes()))
+    let mut endings = PICTURES.iter();
+    endings.any(|ending| has_ending(name.as_bytes(), ending.as_bytes()))
 }
 
 /// Refuses a command whose answer would go to a file that it reads.
 fn keep_answer_apart(rt: &HostRuntime, command: &Command<'_>) -> Result<(), MuError> {
     let files = command.files();
+    let report = reported(rt, ReportForm::Whole);
     for name in files.iter().flatten().chain(command.formulas()) {
-        keep_unwritten(rt, name)?;
+        if apart_from(&report, &[read(rt, CheckFile::Formula, Some(name))]).is_err() {
+            let name = FileName(name);
+            return Err(refused(format!(in rt.alloc();
+                "error: standard output and {name} are the same file\n"
+            )?));
+        }
     }
     Ok(())
-}
-
-/// Refuses to read a file where the answer would go to it.
-fn keep_unwritten(rt: &HostRuntime, name: &str) -> Result<(), MuError> {
-    let report = reported(rt, ReportForm::Whole);
-    if apart_from(&report, &[read(rt, CheckFile::Formula, Some(name))]).is_ok() {
-        return Ok(());
-    }
-    Err(refused(format!(in rt.alloc();
-        "error: standard output and {} are the same file\n",
-        FileName(name)
-    )))
 }
 
 /// The refusal of a command line with this text.
-pub(crate) fn refused(text: Result<String, AllocError>) -> MuError {
-    match text {
-        Ok(text) => MuError::Arguments(ArgumentError::Refused(text)),
-        Err(AllocError) => MuError::Memory,
-    }
-}
-
-/// Refuses a place that is written to and is another one of these.
-fn all_apart(written: &[NamedFile<'_>], read: &[NamedFile<'_>]) -> Result<(), ArgumentError> {
-    for at in 0..written.len() {
-        apart_from(&written[at], &written[at + 1..])?;
-        apart_from(&written[at], read)?;
-    }
-    Ok(())
+pub(crate) fn refused(text: String) -> MuError {
+    MuError::Arguments(ArgumentError::Refused(text))
 }
 
 /// Where the report goes, in a form in which there is one.
 fn reported<'a>(rt: &HostRuntime, report: ReportForm) -> NamedFile<'a> {
-    let name = match report {
-        ReportForm::Nothing => None,
-        _ => Some("/dev/stdout"),
-    };
-    place_of(rt, CheckFile::Report, name)
+    let is_written = !matches!(report, ReportForm::Nothing);
+    place_of(rt, CheckFile::Report, is_written.then_some("/dev/stdout"))
 }
 
 /// The place of what is read under this name.
@@ -159,6 +135,7 @@ fn identify_in_folder<'a>(rt: &HostRuntime, name: &'a str) -> Option<Identity<'a
     Some((found.dev(), found.ino(), path.file_name()?))
 }
 
+/// Refuses a place that is written to and is another one of these.
 fn apart_from(one: &NamedFile<'_>, others: &[NamedFile<'_>]) -> Result<(), ArgumentError> {
     let own = one.identity.is_some();
     for other in others {

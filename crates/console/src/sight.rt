@@ -1,7 +1,7 @@
 // What stands in a text at the place at which a refusal points. The file is read anew: of a formula all, and else up to that line.
 
 use crate::input::lasts;
-use crate::told::say;
+use crate::told::FileName;
 use crate::wrong::{wrong_byte, wrong_counts, wrong_in_line, wrong_token};
 use command_line::codes::{BARE_LABEL, BLANK_LINE, BYTE_ORDER_MARK};
 use requests::error::MuError;
@@ -39,14 +39,15 @@ pub struct Sight {
 }
 
 impl Sight {
-    /// Writes what is shown, and a sign under the place.
-    pub fn tell(&self, rt: &HostRuntime) -> io::Result<()> {
-        say(rt, &["    ", self.shown.as_str(), "\n"])?;
+    /// Writes where it is in the file of this name, what is shown, and a sign under the place.
+    pub fn tell(&self, rt: &HostRuntime, name: FileName<'_>) -> io::Result<()> {
+        let (line, shown) = (self.line, self.shown.as_str());
         let Some(column) = self.column else {
-            return Ok(());
+            return eprintln!(rt; "mucheck: in {name}:{line}\n    {shown}");
         };
         let before = column.saturating_sub(self.hidden).saturating_sub(1);
-        say(rt, &["    ", BLANKS.get(..before).unwrap_or(BLANKS), "^\n"])
+        let blanks = BLANKS.get(..before).unwrap_or(BLANKS);
+        eprintln!(rt; "mucheck: in {name}:{line}:{column}\n    {shown}\n    {blanks}^")
     }
 }
 
@@ -101,27 +102,22 @@ fn find_at_line(
 ) -> io::Result<Finding> {
     skip_lines(reader, line.saturating_sub(1))?;
     let text = front_of_line(alloc, reader, LOOKED_AT)?;
-    let wrong = match code {
+    let mut found = NOTHING_FOUND;
+    found.wrong = match code {
         "A5" => count_lines(alloc, reader)?,
         "A7" => wrong_in_line(alloc, &text)?,
         _ => None,
     };
-    if text.is_empty() {
-        return Ok(Finding {
-            wrong,
-            ..NOTHING_FOUND
-        });
-    }
-    Ok(Finding {
-        sight: Some(Sight {
+    if !text.is_empty() {
+        found.sight = Some(Sight {
             line,
             column: None,
             hidden: 0,
             shown: text_shown(alloc, &text)?,
-        }),
-        wrong,
-        remedy: remedy_of_line(&text),
-    })
+        });
+        found.remedy = remedy_of_line(&text);
+    }
+    Ok(found)
 }
 
 /// How many lines the header of a system announces, and how many there are.
@@ -154,13 +150,8 @@ fn skip_lines(reader: &mut BufReader<File>, count: usize) -> io::Result<usize> {
 }
 
 /// What is found at this offset; where the text ends before, at the end of its last line.
-fn find_at_byte(
-    alloc: Global,
-    code: &str,
-    text: &[u8],
-    offset: usize,
-) -> Result<Finding, AllocError> {
-    let (before, rest) = text.split_at(offset.min(text.len()));
+fn find_at_byte(alloc: Global, code: &str, text: &[u8], at: usize) -> Result<Finding, AllocError> {
+    let (before, rest) = text.split_at(at.min(text.len()));
     let front = match before.strip_suffix(b"\n") {
         Some(front) if rest.is_empty() => front,
         _ => before,
@@ -178,7 +169,7 @@ fn find_at_byte(
         }),
         wrong: match code {
             "F1" => wrong_byte(alloc, rest)?,
-            "F2" | "F3" => wrong_token(alloc, text, offset)?,
+            "F2" | "F3" => wrong_token(alloc, text, at)?,
             _ => None,
         },
         remedy: remedy_of_byte(text, line, inside),

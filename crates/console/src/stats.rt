@@ -6,6 +6,7 @@ use calculus::priorities::Priorities;
 use game::observer::Stage;
 use lts::system::Lts;
 use normal::make::normal_with;
+use requests::request::Options;
 use std::alloc::Global;
 use std::time::{Clock, Instant};
 use std::{fmt, fs};
@@ -21,11 +22,11 @@ pub enum Stats {
 
 impl Stats {
     /// What is told where that is asked for: of the game of both texts, unless there is none, as by sets of states.
-    pub fn of(is_asked: bool, plain: bool, rule: Priorities) -> Stats {
+    pub fn of(is_asked: bool, plain: bool, options: &Options) -> Stats {
         match (is_asked, plain) {
             (false, _) => Stats::Nothing,
             (true, true) => Stats::Stages,
-            (true, false) => Stats::StagesAndGame(rule),
+            (true, false) => Stats::StagesAndGame(options.priorities),
         }
     }
 
@@ -45,14 +46,14 @@ pub enum Activity {
 impl Activity {
     /// Whether the other one is the same, or goes on with it.
     pub(crate) fn goes_on(self, other: Activity) -> bool {
-        let (Activity::Seen(own), Activity::Seen(other)) = (self, other) else {
-            return false;
-        };
-        matches!(
-            (own, other),
-            (Stage::Lifting { .. }, Stage::Lifting { .. })
-                | (Stage::Searching { .. }, Stage::Searching { .. })
-        )
+        use Stage::{Lifting, Searching};
+        match (self, other) {
+            (Activity::Seen(own), Activity::Seen(other)) => matches!(
+                (own, other),
+                (Lifting { .. }, Lifting { .. }) | (Searching { .. }, Searching { .. })
+            ),
+            _ => false,
+        }
     }
 }
 
@@ -87,12 +88,8 @@ pub(crate) fn game_told(
     let normal = normal_with(alloc, formula, rule).ok()?;
     let Size { vertices, edges } = Size::of(alloc, system, &normal).ok()?;
     let nodes = normal.count();
-    let greatest = normal
-        .nodes()
-        .iter()
-        .map(|node| node.priority)
-        .max()
-        .unwrap_or(0);
+    let priorities = normal.nodes().iter().map(|node| node.priority);
+    let greatest = priorities.max().unwrap_or(0);
     format!(in alloc;
         "mucheck: {nodes} nodes, greatest priority {greatest}, {vertices} vertices, {edges} edges\n"
     ).ok()

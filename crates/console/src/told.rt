@@ -1,16 +1,6 @@
-// How words and names of files are told on standard error.
+// How names of files are told on standard error.
 
-use std::io::Write;
-use std::{fmt, io};
-
-/// Writes these words on standard error, one after another.
-pub(crate) fn say(rt: &HostRuntime, words: &[&str]) -> io::Result<()> {
-    let mut out = rt.stderr();
-    for word in words {
-        out.write_all(word.as_bytes())?;
-    }
-    Ok(())
-}
+use std::fmt;
 
 /// A file's name as it is told: in quotes, with escapes, where it isn't plain.
 #[derive(Clone, Copy)]

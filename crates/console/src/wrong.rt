@@ -39,15 +39,16 @@ pub fn wrong_byte(alloc: Global, rest: &[u8]) -> Explanation {
         b'&' => ": it is doubled, `&&`",
         _ => "",
     };
-    Ok(Some(told_of_byte(alloc, *byte, "begins no token", more)?))
+    told_of_byte(alloc, *byte, "begins no token", more)
 }
 
-fn told_of_byte(alloc: Global, byte: u8, what: &str, more: &str) -> Result<String, AllocError> {
-    if byte.is_ascii_graphic() {
-        format!(in alloc; "`{}` {what}{more}", char::from(byte))
+fn told_of_byte(alloc: Global, byte: u8, what: &str, more: &str) -> Explanation {
+    let told = if byte.is_ascii_graphic() {
+        format!(in alloc; "`{}` {what}{more}", char::from(byte))?
     } else {
-        format!(in alloc; "the byte 0x{byte:02X} {what}{more}")
-    }
+        format!(in alloc; "the byte 0x{byte:02X} {what}{more}")?
+    };
+    Ok(Some(told))
 }
 
 /// What is wrong with the label behind a quote.
@@ -70,13 +71,11 @@ pub fn wrong_in_line(alloc: Global, line: &[u8]) -> Explanation {
 
 /// What is wrong with the label that stands here, up to a quote.
 fn wrong_label(alloc: Global, text: &[u8]) -> Explanation {
-    match text
-        .iter()
-        .find(|byte| matches!(**byte, b'"' | ..b' ' | 127..))
-    {
+    let mut bytes = text.iter();
+    match bytes.find(|byte| matches!(**byte, b'"' | ..b' ' | 127..)) {
         Some(byte) if *byte != b'"' => {
             let what = "can't stand in a label, which is printable ASCII";
-            Ok(Some(told_of_byte(alloc, *byte, what, "")?))
+            told_of_byte(alloc, *byte, what, "")
         }
         _ if text.first() == Some(&b'"') => sentence(alloc, "the label is empty"),
         _ => sentence(alloc, "the label is longer than 4,096 bytes"),
@@ -89,9 +88,7 @@ fn sentence(alloc: Global, words: &str) -> Explanation {
 
 /// How many lines of transitions this header announces, beside how many were found; nothing where it tells none.
 pub fn wrong_counts(alloc: Global, header: &[u8], found: usize) -> Explanation {
-    let Ok(header) = str::from_utf8(header) else {
-        return Ok(None);
-    };
+    let header = str::from_utf8(header).unwrap_or("");
     let number = header.split(",").nth(1).unwrap_or("").trim();
     let Ok(announced) = number.parse::<u64>() else {
         return Ok(None);
