@@ -86,7 +86,7 @@ fn differ_by_one(one: &[u8], other: &[u8]) -> bool {
     rests.iter().any(|(one, other)| one == other)
 }
 
-/// What stands in both behind the first byte in which they differ, as an edit puts it in, takes it away, or changes it.
+/// What is left of both behind the bytes with which they begin alike, where the other one, the one, or each of them is without its next byte.
 fn past_edit<'a>(one: &'a [u8], other: &'a [u8]) -> [(&'a [u8], &'a [u8]); 3] {
     let same = one.iter().zip(other).take_while(|(a, b)| a == b).count();
     let (one, other) = (past(one, same), past(other, same));

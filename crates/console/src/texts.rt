@@ -12,7 +12,6 @@ use commands::replay_text::replay_asked;
 use commands::solve_text::solve_asked;
 use commands::verify_text::{verify_both_text, verify_text};
 use requests::request::{Normalize, Replay, Solve, Verify};
-use requests::writers::Writers;
 
 /// Lists the labels of a system, and answers true.
 ///
@@ -53,12 +52,8 @@ pub fn run_solve<T: TimedRuntime>(
     let stats = Stats::of(request.stats, true, &request.options);
     let (line, ticker) = ProgressLine::start(files.rt, threads, stats, None);
     line.step(Activity::ReadingGame);
-    let Writers {
-        mut even,
-        mut odd,
-        mut report,
-        ..
-    } = files.writers();
+    let writers = files.writers();
+    let (mut even, mut odd, mut report) = (writers.even, writers.odd, writers.report);
     let answer = solve_asked(
         threads,
         files.rt.alloc(),
