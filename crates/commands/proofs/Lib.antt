@@ -1,6 +1,6 @@
 mod Lines
+mod Answered
 mod Marked
-mod Judged
 mod Replayed
 mod Solving
 mod Caused

@@ -1,20 +1,17 @@
 -- What is told of labels whose system or formula is refused.
 use Rattle.std.proofs.Common.{◌≡◌, ℕ, List, [], Option, Some, None, refl}
 use Rattle.std.specs.Prelude.{option_map}
-use Rattle.text.proofs.Writing.{Stays-refl}
-use Rattle.text.specs.Taken.{Taken}
 use Rattle.requests.specs.Check.{BySets, RefusesCheck}
 use Rattle.requests.specs.declared.error.MuError.{MuError}
 use Rattle.requests.specs.declared.error.MuError.TheVariants as error
 use Rattle.commands.specs.Labels.{RefusesLabels}
 
 -- It is what a check tells that makes no game and lends no writer.
-pub refused_texts : (first second : List ℕ) (held : Taken) (e : MuError) → RefusesCheck BySets first second [] e → RefusesLabels first (Some second) held held e
-refused_texts first second held error.Memory h = (h.0, Stays-refl held)
-refused_texts first second held (error.System e) h = (h.0, Stays-refl held)
-refused_texts first second held (error.Normal e) h = absurd h.0.beyond
-refused_texts first second held (error.Write e) h = absurd h.begun
-refused_texts first second held e h = (h, Stays-refl held)
+pub refused_texts : (first second : List ℕ) (e : MuError) → RefusesCheck BySets first second [] e → RefusesLabels first (Some second) e
+refused_texts first second error.Memory h = h.0
+refused_texts first second (error.System e) h = h.0
+refused_texts first second (error.Normal e) h = absurd h.0.beyond
+refused_texts first second e h = h
 
 -- a text is left of the formula that there is
 pub text_given : {S : Type 0} (left : S → Option (List ℕ)) (formula : Option S) (f : S) (second : Option (List ℕ)) → formula ≡ Some f

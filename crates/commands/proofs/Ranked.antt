@@ -145,7 +145,7 @@ ranked_as l up x y one other =
     ap₂ (λ m n. ordering_then (nat_cmp n m) (bytes_cmp (label_of l x) (label_of l y))) (sym one.count) (sym other.count)
     ∙ ap (λ o. ordering_then (nat_cmp y.count.0 x.count.0) o) (label_order l.labels up x.number y.number one.inside other.inside)
 
-none : Counted
+abbrev pub none : Counted
 none = record { count = record { 0 = 0 }; number = 0 }
 
 module _ (l : Numbered) (ts : List Transition) (up : AreAscending l.labels) (inside : IsInside l ts) (arrows : map (arrow_of l.labels) ts ≡ l.system.arrows) where

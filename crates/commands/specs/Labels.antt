@@ -1,14 +1,13 @@
 -- What the command `labels` answers.
 use Rattle.std.specs.Prelude.{◌≡◌, ℕ, Bool, true, false, List, [], ◌∷◌, ◌++◌, count_by, codes, decimal, if◌then◌else◌}
-use Rattle.std.specs.Prelude.{Option, Some, None, option_map, Result, MatchResult}
+use Rattle.std.specs.Prelude.{Option, Some, None, option_map, Result}
 use Rattle.std.specs.List.{AllByRecursion, Contains, flat_map, list_any}
 use Rattle.std.specs.List.Sorted.{IsPermutation, IsSorted}
 use Rattle.std.specs.Ordering.{nat_cmp, ordering_then}
 use Rattle.std.specs.Str.{bytes_eq}
 use Rattle.std.specs.declared.cmp.Ordering.{Ordering}
 use Rattle.text.specs.Pieces.{line_end}
-use Rattle.text.specs.Taken.{Taken, Adds, Stays}
-use Rattle.text.specs.Wrote.{WroteFront}
+use Rattle.text.specs.Taken.{Taken}
 use Rattle.systems.specs.Label.{bytes_cmp}
 use Rattle.systems.specs.Numbered.{AreAscending, AreLabelsOf}
 use Rattle.systems.specs.System.{System}
@@ -19,12 +18,11 @@ use Rattle.calculus.specs.NormalTree.{Shape, ModalityNode}
 use Rattle.calculus.specs.declared.priorities.Priorities.TheVariants.{Nested}
 use Rattle.lts.specs.Aut.{HasAutFault}
 use Rattle.lts.specs.Left.{RefusesAut}
-use Rattle.normal.specs.Refused.{HasRefusal}
-use Rattle.normal.specs.declared.error.NormalError.{NormalError}
-use Rattle.requests.specs.Check.{AreSpelled, BySets, HasForm, RefusesCheck, SpellsSystem}
+use Rattle.requests.specs.Check.{AreSpelled, ByGame, BySets, HasForm, HasNoGame, RefusesCheck, SpellsSystem}
 use Rattle.requests.specs.Texts.{IsSystemOf}
 use Rattle.requests.specs.declared.error.MuError.{MuError}
 use Rattle.requests.specs.declared.error.MuError.TheVariants as error
+use Rattle.commands.specs.Answers.{Answers}
 
 -- how many transitions have the label
 abbrev pub times_of : System → (label : List ℕ) → ℕ
@@ -62,7 +60,7 @@ label_end taken = 34 ∷ (if taken then codes " taken" else []) ++ line_end
 
 -- how often the label stands, and the label in quotes
 abbrev pub label_line : ℕ → (label : List ℕ) → (taken : Bool) → List ℕ
-label_line count label taken = decimal count ++ (codes " " ++ (34 ∷ label)) ++ label_end taken
+label_line count label taken = decimal count ++ (codes " " ++ (34 ∷ (label ++ label_end taken)))
 
 -- a line for each label
 pub record IsLabelsText (l : System) (form : List Node) (text : List ℕ) : Type 0 where
@@ -75,47 +73,24 @@ abbrev pub AreGiven : List ℕ → Option (List ℕ) → System → List Node �
 AreGiven first None l form = IsSystemOf first l × (form ≡ [])
 AreGiven first (Some second) l form = (f : Formula) × AreSpelled first second l f × HasForm Nested f × (form ≡ nodes f)
 
--- The text of that was written.
-pub record HasListed (first : List ℕ) (second : Option (List ℕ)) (old new : Taken) (answer : Bool) : Type 0 where
+-- The text is that of the labels that are given so, and the answer is true.
+pub record IsListed (first : List ℕ) (second : Option (List ℕ)) (answer : Bool) (text : List ℕ) : Type 0 where
   pub l : System
   pub form : List Node
   pub given : AreGiven first second l form
-  pub text : List ℕ
   pub listed : IsLabelsText l form text
-  pub written : Adds old new text
   pub answered : answer ≡ true
 
--- A beginning of it was written.
-pub record HasBegunList (first : List ℕ) (second : Option (List ℕ)) (old new : Taken) : Type 0 where
-  pub l : System
-  pub form : List Node
-  pub given : AreGiven first second l form
-  pub text : List ℕ
-  pub listed : IsLabelsText l form text
-  pub begun : WroteFront old new text
-
--- Both texts are spelled, and the formula has no normal form, for this reason.
-pub record HasNoNormal (first second : List ℕ) (e : NormalError) : Type 0 where
-  pub l : System
-  pub f : Formula
-  pub spelled : AreSpelled first second l f
-  pub refused : HasRefusal f e
-
--- What a refusal says of the texts, and what it leaves: nothing was written, but after a write fault a beginning. Of both texts it says what a check's
--- refusal does that makes no game and lends no writer.
-abbrev pub RefusesLabels : (first : List ℕ) → (second : Option (List ℕ)) → (old new : Taken) → MuError → Type 0
-RefusesLabels first second old new (error.Write e) = HasBegunList first second old new
-RefusesLabels first second old new error.Memory = SpellsSystem first × Stays old new
-RefusesLabels first second old new (error.System e) = RefusesAut (Some first) HasAutFault e × Stays old new
-RefusesLabels first (Some second) old new (error.Normal e) = HasNoNormal first second e × Stays old new
-RefusesLabels first (Some second) old new e = RefusesCheck BySets first second [] e × Stays old new
-RefusesLabels first None old new e = ⊥
-
-abbrev pub AnswersLabels : (first : List ℕ) → (second : Option (List ℕ)) → (old new : Taken) → Result Bool MuError → Type 0
-AnswersLabels first second old new result = MatchResult result (HasListed first second old new) (RefusesLabels first second old new)
+-- What a refusal says of the texts: of both what a check's refusal does that lends no writer and makes no game, but for the normal form by the nested rule.
+abbrev pub RefusesLabels : (first : List ℕ) → (second : Option (List ℕ)) → MuError → Type 0
+RefusesLabels first second error.Memory = SpellsSystem first
+RefusesLabels first second (error.System e) = RefusesAut (Some first) HasAutFault e
+RefusesLabels first (Some second) (error.Normal e) = HasNoGame (ByGame Nested None) first second (error.Normal e)
+RefusesLabels first (Some second) e = RefusesCheck BySets first second [] e
+RefusesLabels first None e = ⊥
 
 -- The theorem of the command: of what the reader of the system had left, and that of the formula where there is one, where they tell it, and of what the
 -- writer held before and after.
 abbrev pub Lists : (aut : Option (List ℕ)) → (formula : Option (Option (List ℕ))) → (old new : Taken) → Result Bool MuError → Type 0
 Lists aut formula old new result = (first : List ℕ) (second : Option (List ℕ)) → aut ≡ Some first → formula ≡ option_map Some second
-    → AnswersLabels first second old new result
+    → Answers (IsListed first second) (RefusesLabels first second) old new result

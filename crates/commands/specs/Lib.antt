@@ -1,5 +1,6 @@
 pub mod Causes
 pub mod Spelled
+pub mod Answers
 pub mod Prints
 pub mod Labels
 pub mod Ranking

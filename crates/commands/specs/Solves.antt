@@ -1,5 +1,5 @@
 -- What the command `solve` answers.
-use Rattle.std.specs.Prelude.{◌≡◌, ℕ, Bool, true, List, [], ◌∷◌, ◌⊎◌, Option, Some, Result, MatchResult}
+use Rattle.std.specs.Prelude.{◌≡◌, ℕ, Bool, true, List, [], ◌∷◌, ◌⊎◌, Option, Some, Result, Ok, Err, IfOk}
 use Rattle.text.specs.Taken.{Taken}
 use Rattle.evidence.specs.Full.{IsFullText}
 use Rattle.evidence.specs.declared.error.EvidenceError.{EvidenceError}
@@ -11,8 +11,8 @@ use Rattle.requests.specs.declared.error.MuError.{MuError}
 use Rattle.requests.specs.declared.error.MuError.TheVariants as error
 use Rattle.requests.specs.declared.request.ReportForm.TheVariants.{Whole}
 use Rattle.requests.specs.Solver.{FitsBoard, IsUnsolved}
-use Rattle.requests.specs.Writers.{TextKind, GameText, EvenText, OddText, WitnessText, DrawingText, ReportText, Unasked, Lent, IsLentFor, AreKept, AreWhole}
-use Rattle.requests.specs.Writers.{AreWrittenUpTo, kind_where, lent_for, report_writer}
+use Rattle.requests.specs.Writers.{TextKind, GameText, EvenText, OddText, WitnessText, DrawingText, ReportText, Unasked, Lent, IsLentFor, AreKept}
+use Rattle.requests.specs.Writers.{AreWritten, kind_where, lent_for, report_writer}
 use Rattle.commands.specs.Spelled.{IsGameOf, IsGameTold}
 use Rattle.commands.specs.Winners.{AreWinners, winners_text}
 
@@ -32,27 +32,16 @@ solve_writers evidence old_even new_even old_odd new_odd old_report new_report =
     lent_for (kind_where evidence EvenText) old_even new_even
     ∷ (lent_for (kind_where evidence OddText) old_odd new_odd ∷ report_writer Whole old_report new_report)
 
--- The board can be had for the game that the text spells, and each of its texts was written whole.
-pub record HasSolved (board : BoardKind) (text : List ℕ) (writers : List Lent) (answer : Bool) : Type 0 where
+-- The board can be had for the game that the text spells, and its texts were written, all of them where there is an answer, which is true, and else those up to
+-- one.
+pub record HasSolved (board : BoardKind) (text : List ℕ) (writers : List Lent) (result : Result Bool MuError) : Type 0 where
   pub g : Game
   pub marks : List Bool
   pub game : IsGameOf text g
   pub fits : FitsBoard (Some board) g
   pub exact : AreWinners g marks
-  pub written : AreWhole (IsSolveText g marks) writers
-  pub answered : answer ≡ true
-
--- The texts before one were written whole, of that one a beginning, and of those after it nothing.
-pub record HasBegunSolve (board : BoardKind) (text : List ℕ) (writers : List Lent) : Type 0 where
-  pub g : Game
-  pub marks : List Bool
-  pub game : IsGameOf text g
-  pub fits : FitsBoard (Some board) g
-  pub exact : AreWinners g marks
-  pub begun : AreWrittenUpTo (IsSolveText g marks) writers
-
-abbrev pub SpellsGame : List ℕ → Type 0
-SpellsGame text = (g : Game) × IsGameOf text g
+  pub written : AreWritten (IsSolveText g marks) writers result
+  pub answered : IfOk result (λ answer. answer ≡ true)
 
 -- The game that the text spells isn't solved over this board.
 pub record IsLeft (board : BoardKind) (text : List ℕ) (e : MuError) : Type 0 where
@@ -68,18 +57,24 @@ pub record LacksSolveEvidence (board : BoardKind) (text : List ℕ) (writers : L
   pub asked : IsLentFor EvenText writers
   pub memory : e ≡ evidence.Memory
 
--- What a refusal says of the text, and what it leaves: nothing was written, but after a write fault the texts up to one.
-abbrev pub RefusesSolve : BoardKind → (text : List ℕ) → List Lent → MuError → Type 0
-RefusesSolve board text writers (error.Game e) = IsGameTold text e × AreKept writers
-RefusesSolve board text writers (error.Table e) = IsLeft board text (error.Table e) × AreKept writers
-RefusesSolve board text writers (error.Solve e) = IsLeft board text (error.Solve e) × AreKept writers
-RefusesSolve board text writers (error.Evidence e) = LacksSolveEvidence board text writers e × AreKept writers
-RefusesSolve board text writers error.Memory = SpellsGame text × AreKept writers
-RefusesSolve board text writers (error.Write e) = HasBegunSolve board text writers
-RefusesSolve board text writers _ = ⊥
+-- why a text gives no game
+abbrev pub GivesNoGame : List ℕ → MuError → Type 0
+GivesNoGame text (error.Game e) = IsGameTold text e
+GivesNoGame text error.Memory = (g : Game) × IsGameOf text g
+GivesNoGame text _ = ⊥
 
+-- What a refusal says of the text.
+abbrev pub RefusesSolve : BoardKind → (text : List ℕ) → List Lent → MuError → Type 0
+RefusesSolve board text writers (error.Table e) = IsLeft board text (error.Table e)
+RefusesSolve board text writers (error.Solve e) = IsLeft board text (error.Solve e)
+RefusesSolve board text writers (error.Evidence e) = LacksSolveEvidence board text writers e
+RefusesSolve board text writers e = GivesNoGame text e
+
+-- The texts were written, up to one after a write fault, and after another refusal none.
 abbrev pub AnswersSolve : BoardKind → (text : List ℕ) → List Lent → Result Bool MuError → Type 0
-AnswersSolve board text writers result = MatchResult result (HasSolved board text writers) (RefusesSolve board text writers)
+AnswersSolve board text writers (Ok answer) = HasSolved board text writers (Ok answer)
+AnswersSolve board text writers (Err (error.Write fault)) = HasSolved board text writers (Err (error.Write fault))
+AnswersSolve board text writers (Err e) = RefusesSolve board text writers e × AreKept writers
 
 -- The theorem of the command: of what the reader had left, where it tells it, and of what the writers held before and after.
 abbrev pub Solves : BoardKind → (game : Option (List ℕ)) → List Lent → Result Bool MuError → Type 0

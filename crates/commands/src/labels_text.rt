@@ -1,25 +1,23 @@
 // The engine of the command `labels`.
 
-ghost use Rattle.std.specs.Prelude.{◌≡◌, ◌<◌, ℕ, IfErr, List, Option, Some, false, length, map, option_map};
-ghost use Rattle.std.specs.List.{flat_map, list_any};
-ghost use Rattle.text.specs.Wrote.{Wrote};
-ghost use Rattle.systems.specs.Numbered.{label_at};
-ghost use Rattle.calculus.specs.Closed.{closed_formula};
+ghost use Rattle.std.specs.Prelude.{◌≡◌, ℕ, IfErr, List, Option, false, option_map};
+ghost use Rattle.std.specs.List.{list_any};
 ghost use Rattle.calculus.specs.NodeView.{nodes_of, shape_of};
 ghost use Rattle.requests.specs.Causes.{HaveCauses};
-ghost use Rattle.requests.specs.Check.{AreSpelled};
-ghost use Rattle.commands.specs.Labels.{AnswersLabels, AreGiven, Lists, has_label, is_taken, label_end, label_line, times_of};
-ghost use Rattle.commands.specs.Ranking.{AreCounted, AreCounted-prop, counted_line};
+ghost use Rattle.commands.specs.Answers.{Answers};
+ghost use Rattle.commands.specs.Labels.{AreGiven, IsListed, Lists, RefusesLabels, has_label, label_end};
+ghost use Rattle.commands.specs.Ranking.{AreCounted, AreCounted-prop};
 
+use crate::answer::answered;
 use crate::label_counts::{Counted, ranked_labels};
 use calculus::holds;
 use calculus::node::{Kind, Node};
 use lts::reader::read_aut;
 use lts::system::Lts;
-use lts::{LabelView, Piece, WriteFault, put, put_pieces};
+use lts::{LabelView, Piece, WriteFault, put_pieces};
 use normal::make::normal;
 use requests::error::MuError;
-use requests::texts::{Texts, read_both};
+use requests::texts::read_both;
 use std::alloc::Global;
 use std::hash::BuildHasher;
 use text::batch::{Lines, put_lines};
@@ -49,19 +47,10 @@ pub fn labels_text<L: BuildHasher + Drop, R: Source + Drop, S: Source + Drop, W:
         }
         Some(formula) => {
             let texts = read_both(alloc, hasher, aut, formula)?;
-            write_taken(alloc, &texts, out)
+            let form = normal(alloc, &texts.formula).map_err(MuError::Normal)?;
+            write_labels(alloc, &texts.system, form.nodes(), out)
         }
     }
-}
-
-/// Writes the labels of the system, and which of them the formula takes.
-fn write_taken<W: Sink>(alloc: Global, texts: &Texts, out: &mut W) -> Result<bool, MuError>
-    ensures answers { (first second : List ℕ) → AreSpelled first second texts.now.system.system (closed_formula texts.now.formula)
-        → AnswersLabels first (Some second) (W.taken out.old) (W.taken out.new) result }
-    ensures cause { IfErr result (HaveCauses false false) }
-{
-    let form = normal(alloc, &texts.formula).map_err(MuError::Normal)?;
-    write_labels(alloc, &texts.system, form.nodes(), out)
 }
 
 /// Writes the labels of the system, and which of them a normal form with these nodes takes.
@@ -72,12 +61,16 @@ fn write_labels<W: Sink>(
     out: &mut W,
 ) -> Result<bool, MuError>
     ensures answers { (first : List ℕ) (second : Option (List ℕ)) → AreGiven first second system.now.system (nodes_of nodes.now)
-        → AnswersLabels first second (W.taken out.old) (W.taken out.new) result }
+        → Answers (IsListed first second) (RefusesLabels first second) (W.taken out.old) (W.taken out.new) result }
     ensures cause { IfErr result (HaveCauses false false) }
 {
     let ranked = ranked_labels(alloc, system)?;
-    put_labels(system, &ranked, nodes, out).map_err(MuError::Write)?;
-    Ok(true)
+    let lines = LabelLines {
+        lts: system,
+        ranked: &ranked,
+        nodes,
+    };
+    answered(put_lines(&lines, out), true)
 }
 
 // A line for each of the labels.
@@ -102,45 +95,18 @@ impl Lines for LabelLines<'_> {
     }
 
     fn put_line<W: Sink>(&self, number: usize, writer: &mut W) -> Result<(), WriteFault> {
-        put_label(self.lts, self.ranked[number], self.nodes, writer)
+        let counted = self.ranked[number];
+        let label = self.lts.label(counted.number);
+        put_pieces(
+            writer,
+            &[
+                Piece::Number(u64::from(counted.count.0)),
+                Piece::Bytes(b" \""),
+                Piece::Bytes(label.bytes),
+                Piece::Bytes(end_of_line(is_taken(self.nodes, &label))),
+            ],
+        )
     }
-}
-
-/// Writes a line for each of the labels.
-fn put_labels<W: Sink>(
-    lts: &Lts,
-    ranked: &[Counted],
-    nodes: &[Node],
-    out: &mut W,
-) -> Result<(), WriteFault>
-    requires { AreCounted lts.now ranked.now }
-    ensures { Wrote (W.taken out.old) (W.taken out.new) result
-        (flat_map (λ label. label_line (times_of lts.now.system label) label (is_taken (nodes_of nodes.now) label))
-        (map (λ c. label_at lts.now.labels c.number) ranked.now)) }
-{
-    put_lines(&LabelLines { lts, ranked, nodes }, out)
-}
-
-fn put_label<W: Sink>(
-    lts: &Lts,
-    counted: Counted,
-    nodes: &[Node],
-    out: &mut W,
-) -> Result<(), WriteFault>
-    requires { counted.number < length lts.now.labels }
-    ensures { Wrote (W.taken out.old) (W.taken out.new) result
-        (counted_line lts.now.labels (nodes_of nodes.now) counted) }
-{
-    let label = lts.label(counted.number);
-    put_pieces(
-        out,
-        &[
-            Piece::Number(u64::from(counted.count.0)),
-            Piece::Bytes(b" \""),
-            Piece::Bytes(label.bytes),
-        ],
-    )?;
-    put(out, end_of_line(is_taken(nodes, &label)))
 }
 
 /// What stands behind a label.

@@ -1,6 +1,7 @@
 // The engines of the commands beside `check`, `why` and `table`, over readers and writers.
 #![tactic(auto)]
 
+mod answer;
 mod label_counts;
 pub mod labels_text;
 pub mod normal_text;

@@ -1,13 +1,11 @@
 // The engine of the command `normal`.
 
-ghost use Rattle.std.specs.Prelude.{ℕ, IfErr, List, false};
+ghost use Rattle.std.specs.Prelude.{IfErr};
 ghost use Rattle.text.specs.Cause.{HasCause};
 ghost use Rattle.requests.specs.declared.error.MuError.TheVariants as error;
-ghost use Rattle.calculus.specs.Closed.{closed_formula};
-ghost use Rattle.requests.specs.Texts.{IsFormulaOf};
-ghost use Rattle.commands.specs.Prints.{AnswersPrint, Prints};
+ghost use Rattle.commands.specs.Prints.{Prints};
 
-use calculus::closed::Closed;
+use crate::answer::answered;
 use calculus::priorities::Priorities;
 use normal::make::normal_with;
 use normal::printer::print_normal;
@@ -33,7 +31,8 @@ pub fn normal_text<S: Source + Drop, W: Sink>(
     ensures cause { IfErr result (HasCause S.can_fail error.Read) }
 {
     let formula = read_formula(alloc, formula)?;
-    write_form(alloc, &formula, priorities, out)
+    let form = normal_with(alloc, &formula, priorities).map_err(MuError::Normal)?;
+    answered(print_normal(&form, out), true)
 }
 
 /// Writes the normal form as a command asks for it: with the priorities of its rule.
@@ -50,19 +49,4 @@ pub fn normal_asked<S: Source + Drop, W: Sink>(
     ensures cause { IfErr result (HasCause S.can_fail error.Read) }
 {
     normal_text(alloc, formula, request.priorities, out)
-}
-
-/// Writes the formula's normal form.
-fn write_form<W: Sink>(
-    alloc: Global,
-    formula: &Closed,
-    priorities: Priorities,
-    out: &mut W,
-) -> Result<bool, MuError>
-    ensures answers { (text : List ℕ) → IsFormulaOf text (closed_formula formula.now) → AnswersPrint priorities text (W.taken out.old) (W.taken out.new) result }
-    ensures cause { IfErr result (HasCause false error.Read) }
-{
-    let form = normal_with(alloc, formula, priorities).map_err(MuError::Normal)?;
-    print_normal(&form, out).map_err(MuError::Write)?;
-    Ok(true)
 }

@@ -1,16 +1,12 @@
 // The engine of the command `replay`.
 
-ghost use Rattle.std.specs.Prelude.{◌≡◌, ◌||◌, ℕ, IfErr, List, false, Some, MatchResult, length};
-ghost use Rattle.systems.specs.System.{System};
-ghost use Rattle.calculus.specs.Tree.{Formula};
-ghost use Rattle.calculus.specs.Closed.{closed_formula};
-ghost use Rattle.calculus.specs.declared.priorities.Priorities.TheVariants.{Nested};
-ghost use Rattle.liftcore.specs.Core.{starting_core};
+ghost use Rattle.std.specs.Prelude.{◌≡◌, ◌||◌, ℕ, IfErr, List, false, Some, MatchResult};
 ghost use Rattle.requests.specs.Causes.{HaveCauses};
-ghost use Rattle.requests.specs.Check.{AreSpelled, HasGame, IsArenaOf};
-ghost use Rattle.commands.specs.Replays.{AnswersReplay, GivesNoSchedule, Replays, nested_game};
+ghost use Rattle.commands.specs.Answers.{Answers};
+ghost use Rattle.commands.specs.Replays.{GivesNoSchedule, HasNestedGame, IsReplayed, RefusesReplay, Replays};
 ghost use Rattle.commands.specs.Spelled.{IsScheduleOf};
 
+use crate::answer::answered;
 use calculus::priorities::Priorities;
 use game::graph::Game;
 use liftcore::error::{CoreError, ReadError, ScheduleError};
@@ -21,7 +17,7 @@ use liftcore::writer::write_replay;
 use requests::arena::arena_of;
 use requests::error::MuError;
 use requests::request::Replay;
-use requests::texts::{Texts, read_both};
+use requests::texts::read_both;
 use std::alloc::Global;
 use std::hash::BuildHasher;
 use std::thread::Threads;
@@ -58,7 +54,9 @@ pub fn replay_text<
     ensures cause { IfErr result (HaveCauses R.can_fail (S.can_fail || T.can_fail)) }
 {
     let texts = read_both(alloc, hasher, aut, formula)?;
-    replay_of(rt, alloc, &texts, schedule, workers, out)
+    let (system, formula) = (&texts.system, &texts.formula);
+    let game = arena_of(rt, alloc, system, formula, Priorities::Nested, None)?;
+    replay_in(alloc, &game, schedule, workers, out)
 }
 
 /// Replays as a command asks for it: with as many workers.
@@ -98,31 +96,6 @@ pub fn replay_asked<
     )
 }
 
-/// Replays the schedule in the game of a system and a formula that were read, and writes what it comes to.
-fn replay_of<T: Source + Drop, W: Sink, H: Threads + Sync>(
-    rt: &H,
-    alloc: Global,
-    texts: &Texts,
-    schedule: T,
-    workers: u32,
-    out: &mut W,
-) -> Result<bool, MuError>
-    ensures answers { (first second third : List ℕ) → AreSpelled first second texts.now.system.system (closed_formula texts.now.formula)
-        → T.remaining schedule ≡ Some third
-        → AnswersReplay workers first second third (W.taken out.old) (W.taken out.new) result }
-    ensures cause { IfErr result (HaveCauses false T.can_fail) }
-{
-    let game = arena_of(
-        rt,
-        alloc,
-        &texts.system,
-        &texts.formula,
-        Priorities::Nested,
-        None,
-    )?;
-    replay_in(alloc, &game, schedule, workers, out)
-}
-
 /// Replays the schedule in a game that was made, and writes what it comes to.
 fn replay_in<T: Source + Drop, W: Sink>(
     alloc: Global,
@@ -131,13 +104,18 @@ fn replay_in<T: Source + Drop, W: Sink>(
     workers: u32,
     out: &mut W,
 ) -> Result<bool, MuError>
-    ensures answers { (first second third : List ℕ) (l : System) (f : Formula) → AreSpelled first second l f → IsArenaOf Nested l f game.now
-        → T.remaining schedule ≡ Some third
-        → AnswersReplay workers first second third (W.taken out.old) (W.taken out.new) result }
+    ensures answers { (first second third : List ℕ) → HasNestedGame first second game.now → T.remaining schedule ≡ Some third
+        → Answers (IsReplayed workers first second third) (RefusesReplay workers first second third) (W.taken out.old) (W.taken out.new) result }
     ensures cause { IfErr result (HaveCauses false T.can_fail) }
 {
     let events = read_events(alloc, schedule, workers, game.vertices())?;
-    replay_events(alloc, game, &events, workers, out)
+    match Core::new(alloc, game, workers as usize) {
+        Ok(mut core) => {
+            let tally = core.follow(&events);
+            answered(write_replay(&core, tally, out), true)
+        }
+        Err(CoreError::Memory) => Err(MuError::Schedule(ScheduleError::Memory)),
+    }
 }
 
 /// The events of a schedule for so many workers and vertices.
@@ -157,40 +135,4 @@ fn read_events<T: Source + Drop>(
         Err(ReadError::Read(ReadFault::Read)) => Err(MuError::Read),
         Err(ReadError::Read(ReadFault::Memory)) => Err(MuError::Memory),
     }
-}
-
-/// Replays the events, and writes what they come to.
-fn replay_events<W: Sink>(
-    alloc: Global,
-    game: &Game,
-    events: &[Event],
-    workers: u32,
-    out: &mut W,
-) -> Result<bool, MuError>
-    ensures answers { (first second third : List ℕ) (l : System) (f : Formula) → AreSpelled first second l f → IsArenaOf Nested l f game.now
-        → IsScheduleOf workers (length game.now.vertices) third events.now
-        → AnswersReplay workers first second third (W.taken out.old) (W.taken out.new) result }
-    ensures cause { IfErr result (HaveCauses false false) }
-{
-    match Core::new(alloc, game, workers as usize) {
-        Ok(mut core) => follow_and_write(&mut core, events, out),
-        Err(CoreError::Memory) => Err(MuError::Schedule(ScheduleError::Memory)),
-    }
-}
-
-/// Does the events from the start, and writes what they come to.
-fn follow_and_write<W: Sink>(
-    core: &mut Core<'_>,
-    events: &[Event],
-    out: &mut W,
-) -> Result<bool, MuError>
-    ensures answers { (first second third : List ℕ) (l : System) (f : Formula) (workers : ℕ) → AreSpelled first second l f → HasGame Nested l f
-        → core.old ≡ starting_core (nested_game l f) workers
-        → IsScheduleOf workers (length (nested_game l f).vertices) third events.now
-        → AnswersReplay workers first second third (W.taken out.old) (W.taken out.new) result }
-    ensures cause { IfErr result (HaveCauses false false) }
-{
-    let tally = core.follow(events);
-    write_replay(core, tally, out).map_err(MuError::Write)?;
-    Ok(true)
 }

@@ -47,21 +47,6 @@ pub(crate) fn evidence_by<O: Observer + Sync, H: Runtime>(
             return Ok(pair);
         }
     }
-    evidence_by_lifting(rt, alloc, game, options, observer)
-}
-
-/// That of the least progress tables.
-fn evidence_by_lifting<O: Observer + Sync, H: Runtime>(
-    rt: &H,
-    alloc: Global,
-    game: &Arc<Game, Global>,
-    options: &Options,
-    observer: &O,
-) -> Result<EvidencePair, MuError>
-    ensures full { IfOk result (AreFull (arc_value game.now)) }
-    ensures board { IfOk result (λ _. FitsBoard (Some options.now.board) (arc_value game.now)) }
-    ensures refusal { IfErr result (IsUnproved options.now.board (arc_value game.now)) }
-{
     let settled = solve_seen(rt, alloc, game, options, &NoGate, observer, None)?;
     least_evidence(alloc, game, &settled)
 }

@@ -1,21 +1,18 @@
 // The engine of the command `solve`.
 
-ghost use Rattle.std.specs.Prelude.{◌≡◌, ℕ, IfErr, false, true, List, Some, Ok, Err, MatchResult, length};
+ghost use Rattle.std.specs.Prelude.{◌≡◌, ℕ, IfErr, false, true, List, Some, MatchResult};
 ghost use Rattle.std.specs.Arc.{arc_value};
 ghost use Rattle.std.specs.Option.{is_some};
+ghost use Rattle.text.specs.Cause.{HasCause};
+ghost use Rattle.game.specs.Game.{Game};
 ghost use Rattle.evidence.specs.Pair.{AreFull};
-ghost use Rattle.workers.specs.declared.team.BoardKind.{BoardKind};
-ghost use Rattle.requests.specs.Solver.{FitsBoard};
 ghost use Rattle.requests.specs.Writers.{AreWritten, report_writer};
 ghost use Rattle.requests.specs.declared.request.ReportForm.TheVariants.{Whole};
-ghost use Rattle.text.specs.Cause.{HasCause};
 ghost use Rattle.commands.specs.Causes.{game_unread};
 ghost use Rattle.commands.specs.Spelled.{IsGameOf};
-ghost use Rattle.commands.specs.Solves.{AnswersSolve, IsSolveText, Solves, solve_writers};
-ghost use Rattle.calculus.specs.Meaning.{MarksOf};
-ghost use Rattle.game.specs.Game.{Game};
-ghost use Rattle.game.specs.Wins.{Wins};
+ghost use Rattle.commands.specs.Solves.{AnswersSolve, GivesNoGame, IsSolveText, Solves, solve_writers};
 
+use crate::answer::answered;
 use crate::solution::evidence_by;
 use crate::winner_text::{are_winners, even_marks, write_winners};
 use evidence::pair::EvidencePair;
@@ -49,23 +46,7 @@ pub fn solve_text<R: Source + Drop, W: Sink, H: Runtime>(
     ensures solves { Solves options.now.board (R.remaining game) (report_writer Whole (W.taken out.old) (W.taken out.new)) result }
     ensures cause { IfErr result (HasCause R.can_fail game_unread) }
 {
-    let game = read_game(alloc, game).map_err(MuError::Game)?;
-    solve_alone(rt, alloc, game, options, out)
-}
-
-/// Solves the game, and writes who wins each vertex. Nobody watches.
-fn solve_alone<W: Sink, H: Runtime>(
-    rt: &H,
-    alloc: Global,
-    game: Game,
-    options: &Options,
-    out: &mut W,
-) -> Result<bool, MuError>
-    ensures answers { (text : List ℕ) → IsGameOf text game
-        → AnswersSolve options.now.board text (report_writer Whole (W.taken out.old) (W.taken out.new)) result }
-    ensures cause { IfErr result (HasCause false game_unread) }
-{
-    let game = Arc::new(alloc, game)?;
+    let game = read_shared(alloc, game)?;
     solve_and_write(rt, alloc, &game, options, out, &Silent)
 }
 
@@ -88,32 +69,23 @@ pub fn solve_asked<R: Source + Drop, E: Sink, O: Sink, W: Sink, U: Observer + Sy
         (E.taken even.old) (E.taken even.new) (O.taken odd.old) (O.taken odd.new) (W.taken out.old) (W.taken out.new)) result }
     ensures cause { IfErr result (HasCause R.can_fail game_unread) }
 {
-    let game = read_game(alloc, game).map_err(MuError::Game)?;
-    solve_read(rt, alloc, request, game, even, odd, out, observer)
-}
-
-/// Solves the game that was read, and writes what is asked for.
-fn solve_read<E: Sink, O: Sink, W: Sink, U: Observer + Sync, H: Runtime>(
-    rt: &H,
-    alloc: Global,
-    request: &Solve<'_>,
-    game: Game,
-    even: &mut E,
-    odd: &mut O,
-    out: &mut W,
-    observer: &U,
-) -> Result<bool, MuError>
-    ensures answers { (text : List ℕ) → IsGameOf text game → AnswersSolve request.now.options.board text (solve_writers (is_some request.now.evidence)
-        (E.taken even.old) (E.taken even.new) (O.taken odd.old) (O.taken odd.new) (W.taken out.old) (W.taken out.new)) result }
-    ensures cause { IfErr result (HasCause false game_unread) }
-{
-    let game = Arc::new(alloc, game)?;
+    let game = read_shared(alloc, game)?;
     let options = &request.options;
     if request.evidence.is_some() {
         prove_and_write(rt, alloc, &game, options, even, odd, out, observer)
     } else {
         solve_and_write(rt, alloc, &game, options, out, observer)
     }
+}
+
+/// Reads the game, which the workers share.
+fn read_shared<R: Source + Drop>(alloc: Global, game: R) -> Result<Arc<Game, Global>, MuError>
+    ensures reads { (text : List ℕ) → R.remaining game ≡ Some text
+        → MatchResult result (λ game. IsGameOf text (arc_value game)) (GivesNoGame text) }
+    ensures cause { IfErr result (HasCause R.can_fail game_unread) }
+{
+    let game = read_game(alloc, game).map_err(MuError::Game)?;
+    Ok(Arc::new(alloc, game)?)
 }
 
 /// Solves the game, and writes who wins each vertex.
@@ -131,18 +103,8 @@ fn solve_and_write<W: Sink, U: Observer + Sync, H: Runtime>(
 {
     let marks = winners_by(rt, alloc, game, options, observer)?;
     observer.sees(Stage::Writing);
-    put_winners(game, &marks, out)
-}
-
-/// Writes who wins each vertex.
-fn put_winners<W: Sink>(game: &Game, marks: &[bool], out: &mut W) -> Result<bool, MuError>
-    requires { MarksOf (length game.now.vertices) marks.now (Wins game.now) }
-    ensures answers { (board : BoardKind) (text : List ℕ) → IsGameOf text game.now → FitsBoard (Some board) game.now
-        → AnswersSolve board text (report_writer Whole (W.taken out.old) (W.taken out.new)) result }
-    ensures cause { IfErr result (HasCause false game_unread) }
-{
-    are_winners(game, marks);
-    answer(write_winners(marks, out))
+    are_winners(game, &marks);
+    answered(write_winners(&marks, out), true)
 }
 
 /// Makes evidence of all that each player wins, and writes both texts of it and who wins each vertex.
@@ -162,25 +124,8 @@ fn prove_and_write<E: Sink, O: Sink, W: Sink, U: Observer + Sync, H: Runtime>(
 {
     let pair = evidence_by(rt, alloc, game, options, observer)?;
     observer.sees(Stage::Writing);
-    write_all(alloc, game, &pair, even, odd, out)
-}
-
-/// Writes both texts of evidence, and who wins each vertex by them.
-fn write_all<E: Sink, O: Sink, W: Sink>(
-    alloc: Global,
-    game: &Game,
-    pair: &EvidencePair,
-    even: &mut E,
-    odd: &mut O,
-    out: &mut W,
-) -> Result<bool, MuError>
-    requires { AreFull game.now pair.now }
-    ensures answers { (board : BoardKind) (text : List ℕ) → IsGameOf text game.now → FitsBoard (Some board) game.now → AnswersSolve board text (solve_writers true
-        (E.taken even.old) (E.taken even.new) (O.taken odd.old) (O.taken odd.new) (W.taken out.old) (W.taken out.new)) result }
-    ensures cause { IfErr result (HasCause false game_unread) }
-{
     let marks = even_marks(alloc, game, &pair.even)?;
-    answer(put_all(pair, &marks, even, odd, out))
+    answered(put_all(&pair, &marks, even, odd, out), true)
 }
 
 /// Writes the three texts, one after another.
@@ -197,12 +142,4 @@ fn put_all<E: Sink, O: Sink, W: Sink>(
     write_evidence(&pair.even, even)?;
     write_evidence(&pair.odd, odd)?;
     write_winners(marks, out)
-}
-
-/// True, where all was written.
-fn answer(wrote: Result<(), WriteFault>) -> Result<bool, MuError>
-    ensures { MatchResult wrote (λ _. result ≡ Ok true) (λ fault. result ≡ Err (MuError.Write fault)) }
-{
-    wrote.map_err(MuError::Write)?;
-    Ok(true)
 }

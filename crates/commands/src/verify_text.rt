@@ -3,8 +3,10 @@
 ghost use Rattle.std.specs.Prelude.{◌≡◌, ◌||◌, ℕ, IfErr, List, Some, false};
 ghost use Rattle.commands.specs.Causes.{AreCaused};
 ghost use Rattle.commands.specs.Spelled.{IsEvidenceOf, IsGameOf};
-ghost use Rattle.commands.specs.Verifies.{AnswersVerify, AnswersBoth, Verifies, VerifiesBoth};
+ghost use Rattle.commands.specs.Answers.{Answers};
+ghost use Rattle.commands.specs.Verifies.{AreVerified, IsVerified, RefusesBoth, RefusesVerify, Verifies, VerifiesBoth};
 
+use crate::answer::answered;
 use evidence::evidence::Evidence;
 use evidence::reader::read_evidence;
 use evidence::verdict::{Both, Verdict};
@@ -32,34 +34,22 @@ pub fn verify_text<R: Source + Drop, S: Source + Drop, W: Sink>(
     ensures cause { IfErr result (AreCaused R.can_fail S.can_fail) }
 {
     let game = read_game(alloc, game).map_err(MuError::Game)?;
-    verify_for(alloc, &game, evidence, out)
-}
-
-/// Reads evidence for a game that was read, and writes the verdict.
-fn verify_for<S: Source + Drop, W: Sink>(
-    alloc: Global,
-    game: &Game,
-    evidence: S,
-    out: &mut W,
-) -> Result<bool, MuError>
-    ensures answers { (first second : List ℕ) → IsGameOf first game.now → S.remaining evidence ≡ Some second
-        → AnswersVerify first second (W.taken out.old) (W.taken out.new) result }
-    ensures cause { IfErr result (AreCaused false S.can_fail) }
-{
-    let evidence = read_evidence(alloc, evidence, game).map_err(MuError::Evidence)?;
-    judge(game, &evidence, out)
+    let evidence = read_evidence(alloc, evidence, &game).map_err(MuError::Evidence)?;
+    judge(&game, &evidence, out)
 }
 
 /// Writes the verdict, and answers whether it is good.
 fn judge<W: Sink>(game: &Game, evidence: &Evidence, out: &mut W) -> Result<bool, MuError>
     requires { evidence.now.game ≡ game.now }
     ensures answers { (first second : List ℕ) → IsGameOf first game.now → IsEvidenceOf game.now second evidence.now.evidence
-        → AnswersVerify first second (W.taken out.old) (W.taken out.new) result }
+        → Answers (IsVerified first second) (RefusesVerify first second) (W.taken out.old) (W.taken out.new) result }
     ensures cause { IfErr result (AreCaused false false) }
 {
     let verdict = verify(game, evidence);
-    write_verdict(evidence, verdict, out).map_err(MuError::Write)?;
-    Ok(matches!(verdict, Verdict::Good))
+    answered(
+        write_verdict(evidence, verdict, out),
+        matches!(verdict, Verdict::Good),
+    )
 }
 
 /// Writes whether two pieces of evidence are good, of different players, and together of every vertex of a game, or the first
@@ -79,40 +69,9 @@ pub fn verify_both_text<R: Source + Drop, S: Source + Drop, T: Source + Drop, W:
     ensures cause { IfErr result (AreCaused R.can_fail (S.can_fail || T.can_fail)) }
 {
     let game = read_game(alloc, game).map_err(MuError::Game)?;
-    verify_both_for(alloc, &game, first, second, out)
-}
-
-/// Reads both pieces of evidence for a game that was read, and writes what is told of both.
-fn verify_both_for<S: Source + Drop, T: Source + Drop, W: Sink>(
-    alloc: Global,
-    game: &Game,
-    first: S,
-    second: T,
-    out: &mut W,
-) -> Result<bool, MuError>
-    ensures answers { (text one other : List ℕ) → IsGameOf text game.now → S.remaining first ≡ Some one → T.remaining second ≡ Some other
-        → AnswersBoth text one other (W.taken out.old) (W.taken out.new) result }
-    ensures cause { IfErr result (AreCaused false (S.can_fail || T.can_fail)) }
-{
-    let first = read_evidence(alloc, first, game).map_err(MuError::Evidence)?;
-    verify_with(alloc, game, &first, second, out)
-}
-
-/// Reads the second piece of evidence where the first was read, and writes what is told of both.
-fn verify_with<T: Source + Drop, W: Sink>(
-    alloc: Global,
-    game: &Game,
-    first: &Evidence,
-    second: T,
-    out: &mut W,
-) -> Result<bool, MuError>
-    requires { first.now.game ≡ game.now }
-    ensures answers { (text one other : List ℕ) → IsGameOf text game.now → IsEvidenceOf game.now one first.now.evidence → T.remaining second ≡ Some other
-        → AnswersBoth text one other (W.taken out.old) (W.taken out.new) result }
-    ensures cause { IfErr result (AreCaused false T.can_fail) }
-{
-    let second = read_evidence(alloc, second, game).map_err(MuError::Evidence)?;
-    judge_both(game, first, &second, out)
+    let first = read_evidence(alloc, first, &game).map_err(MuError::Evidence)?;
+    let second = read_evidence(alloc, second, &game).map_err(MuError::Evidence)?;
+    judge_both(&game, &first, &second, out)
 }
 
 /// Writes what is told of both, and answers whether it is yes.
@@ -126,10 +85,12 @@ fn judge_both<W: Sink>(
     requires second { second.now.game ≡ game.now }
     ensures answers { (text one other : List ℕ) → IsGameOf text game.now → IsEvidenceOf game.now one first.now.evidence
         → IsEvidenceOf game.now other second.now.evidence
-        → AnswersBoth text one other (W.taken out.old) (W.taken out.new) result }
+        → Answers (AreVerified text one other) (RefusesBoth text one other) (W.taken out.old) (W.taken out.new) result }
     ensures cause { IfErr result (AreCaused false false) }
 {
     let both = check_both(game, first, second);
-    write_both(first, second, both, out).map_err(MuError::Write)?;
-    Ok(matches!(both, Both::Yes))
+    answered(
+        write_both(first, second, both, out),
+        matches!(both, Both::Yes),
+    )
 }

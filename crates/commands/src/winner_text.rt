@@ -1,18 +1,18 @@
 // Who wins each vertex of a game, and the text of it.
 
-ghost use Rattle.std.specs.Prelude.{◌≡◌, ◌++◌, length, count_by, decimal, IfErr, IfOk};
+ghost use Rattle.std.specs.Prelude.{◌≡◌, length, count_by, IfErr, IfOk};
 ghost use Rattle.text.specs.Wrote.{Wrote};
 ghost use Rattle.calculus.specs.Meaning.{MarksOf};
 ghost use Rattle.evidence.specs.Full.{IsFull};
 ghost use Rattle.game.specs.Wins.{Wins};
-ghost use Rattle.commands.specs.Winners.{AreWinners, even_or_odd, sizes_text, winner_lines, winners_text as text_of};
+ghost use Rattle.commands.specs.Winners.{AreWinners, even_or_odd, winners_text as text_of};
 
 use evidence::decide::set_marks;
 use evidence::evidence::Evidence;
 use game::graph::Game;
 use game::player::Player;
 use laws::games::{not_both_win, one_wins};
-use lts::{Piece, WriteFault, put, put_number, put_pieces};
+use lts::{Piece, WriteFault, put_pieces};
 use requests::error::MuError;
 use std::alloc::Global;
 use text::batch::{Lines, put_lines};
@@ -51,13 +51,6 @@ pub(crate) fn even_marks(alloc: Global, game: &Game, even: &Evidence) -> Result<
 pub(crate) fn write_winners<W: Sink>(marks: &[bool], out: &mut W) -> Result<(), WriteFault>
     ensures { Wrote (W.taken out.old) (W.taken out.new) result (text_of marks.now) }
 {
-    write_sizes(marks, out)?;
-    write_lines(marks, out)
-}
-
-fn write_sizes<W: Sink>(marks: &[bool], out: &mut W) -> Result<(), WriteFault>
-    ensures { Wrote (W.taken out.old) (W.taken out.new) result (sizes_text (length marks.now) (count_by (λ mark. mark) marks.now)) }
-{
     put_pieces(
         out,
         &[
@@ -67,7 +60,8 @@ fn write_sizes<W: Sink>(marks: &[bool], out: &mut W) -> Result<(), WriteFault>
             Piece::Number(count_marked(marks) as u64),
             Piece::Bytes(b"\n"),
         ],
-    )
+    )?;
+    put_lines(&WinnerLines { marks }, out)
 }
 
 // A line for each mark.
@@ -89,21 +83,9 @@ impl Lines for WinnerLines<'_> {
     }
 
     fn put_line<W: Sink>(&self, number: usize, writer: &mut W) -> Result<(), WriteFault> {
-        write_line(number, self.marks[number], writer)
+        let end = Piece::Bytes(end_of_line(self.marks[number]));
+        put_pieces(writer, &[Piece::Number(number as u64), end])
     }
-}
-
-fn write_lines<W: Sink>(marks: &[bool], out: &mut W) -> Result<(), WriteFault>
-    ensures { Wrote (W.taken out.old) (W.taken out.new) result (winner_lines 0 marks.now) }
-{
-    put_lines(&WinnerLines { marks }, out)
-}
-
-fn write_line<W: Sink>(v: usize, mark: bool, out: &mut W) -> Result<(), WriteFault>
-    ensures { Wrote (W.taken out.old) (W.taken out.new) result (decimal v ++ even_or_odd mark) }
-{
-    put_number(out, b"", v as u64)?;
-    put(out, end_of_line(mark))
 }
 
 /// How many are marked.
