@@ -1,11 +1,11 @@
 -- What a table tells of each formula: a line, and the status that it comes to.
 use Rattle.std.specs.Prelude.{◌≡◌, ℕ, ◌||◌, ◌&&◌, ◌==◌, nat_eq, Bool, true, false, not, List, [], ◌∷◌, ◌++◌, ◌⊎◌, length, drop, count_by, codes}
-use Rattle.std.specs.Prelude.{decimal, Option, Some, None, Result, MatchResult, if◌then◌else◌}
+use Rattle.std.specs.Prelude.{decimal, Option, Some, None, Result, IfOk, if◌then◌else◌}
 use Rattle.std.specs.List.{slice_index_or, starts_with}
 use Rattle.text.specs.Cause.{HasCause}
-use Rattle.text.specs.Taken.{Taken, Adds}
+use Rattle.text.specs.Taken.{Taken}
 use Rattle.text.specs.Tokens.{past_blanks}
-use Rattle.text.specs.Wrote.{WroteFront}
+use Rattle.text.specs.Wrote.{Wrote}
 use Rattle.text.specs.declared.write_loop.WriteFault.{WriteFault}
 use Rattle.systems.specs.System.{System}
 use Rattle.calculus.specs.Tree.{Formula}
@@ -24,6 +24,7 @@ use Rattle.requests.specs.Known.{AreKnown, IsAbsentAt}
 use Rattle.text.specs.Pieces.{line_end}
 use Rattle.requests.specs.Texts.{IsFormulaOf}
 use Rattle.requests.specs.Status.{error_status}
+use Rattle.table_lines.specs.declared.table.LineAnswer.{LineAnswer}
 
 -- ------------------------------------------------------------------ what a formula's text wants
 
@@ -95,12 +96,9 @@ place_of (error.Formula (formula.Fault fault offset)) = codes " at offset " ++ d
 place_of (error.NoLabel offset) = codes " at offset " ++ decimal offset
 place_of _ = []
 
-abbrev pub name_end : (name : List ℕ) → List ℕ
-name_end name = codes " " ++ (name ++ line_end)
-
 -- the refusal's code, its place, and the file's name
 abbrev pub refusal_line : (name : List ℕ) → MuError → List ℕ
-refusal_line name e = code_of e ++ (place_of e ++ name_end name)
+refusal_line name e = code_of e ++ (place_of e ++ (codes " " ++ (name ++ line_end)))
 
 -- ------------------------------------------------------------------ the theorem
 
@@ -116,16 +114,24 @@ IsRefused strict way l text (error.Formula e) = IsTold text e
 IsRefused strict way l text (error.NoLabel place) = (f : Formula) × IsFormulaOf text f × IsAbsentAt strict l text place
 IsRefused strict way l text e = (f : Formula) × IsFormulaOf text f × IsBeyond way l f e × AreKnown strict l text
 
--- The line has the initial state's answer in the meaning of the formula that the text spells, and the number of states in it. Where its words are asked
--- about, each is on a transition.
-pub record IsAnswer (strict : Bool) (way : Way) (l : System) (name text line : List ℕ) (status : ℕ) : Type 0 where
+-- What is found of a text: the initial state's answer in the meaning of the formula that it spells, the number of states in it, and what the first line says
+-- is expected. Where its words are asked about, each is on a transition.
+pub record IsFound (strict : Bool) (way : Way) (l : System) (text : List ℕ) (x : LineAnswer) : Type 0 where
   pub f : Formula
   pub marks : List Bool
   pub formula : IsFormulaOf text f
   pub known : AreKnown strict l text
   pub found : AreMarks way l f marks
-  pub told : line ≡ answer_line name (expectation text) (slice_index_or marks l.initial false) (count_by (λ mark. mark) marks) l.states
-  pub ends : status ≡ (if is_as_expected (expectation text) (slice_index_or marks l.initial false) then 0 else 1)
+  pub expected : x.expected ≡ expectation text
+  pub answer : x.answer ≡ slice_index_or marks l.initial false
+  pub marked : x.marked ≡ count_by (λ mark. mark) marks
+
+-- The line has that.
+pub record IsAnswer (strict : Bool) (way : Way) (l : System) (name text line : List ℕ) (status : ℕ) : Type 0 where
+  pub x : LineAnswer
+  pub found : IsFound strict way l text x
+  pub told : line ≡ answer_line name x.expected x.answer x.marked l.states
+  pub ends : status ≡ (if is_as_expected x.expected x.answer then 0 else 1)
 
 -- The line has the refusal. That a read of the formula failed is told where one can fail.
 pub record IsRefusedLine (strict : Bool) (way : Way) (l : System) (can_fail : Bool) (name text line : List ℕ) (status : ℕ) : Type 0 where
@@ -139,20 +145,14 @@ pub record IsRefusedLine (strict : Bool) (way : Way) (l : System) (can_fail : Bo
 abbrev pub IsTableLine : (strict : Bool) → Way → System → (can_fail : Bool) → (name text line : List ℕ) → (status : ℕ) → Type 0
 IsTableLine strict way l can_fail name text line status = IsAnswer strict way l name text line status ⊎ IsRefusedLine strict way l can_fail name text line status
 
--- such a line was written whole
-pub record HasTold (strict : Bool) (way : Way) (l : System) (can_fail : Bool) (name text : List ℕ) (old new : Taken) (status : ℕ) : Type 0 where
-  pub line : List ℕ
-  pub is : IsTableLine strict way l can_fail name text line status
-  pub written : Adds old new line
-
--- a beginning of it was written
-pub record HasBegunToTell (strict : Bool) (way : Way) (l : System) (can_fail : Bool) (name text : List ℕ) (old new : Taken) : Type 0 where
+-- Such a line was written, whole where its status is answered, else a beginning of it.
+pub record HasTold (strict : Bool) (way : Way) (l : System) (can_fail : Bool) (name text : List ℕ) (old new : Taken) (result : Result ℕ WriteFault) : Type 0 where
   pub line : List ℕ
   pub status : ℕ
   pub is : IsTableLine strict way l can_fail name text line status
-  pub begun : WroteFront old new line
+  pub written : Wrote old new result line
+  pub answered : IfOk result (λ given. given ≡ status)
 
 -- what a call for a line says of the formula's reader and of the writer
 abbrev pub TellsLine : (strict : Bool) → Way → System → (can_fail : Bool) → (name : List ℕ) → (formula : Option (List ℕ)) → (old new : Taken) → Result ℕ WriteFault → Type 0
-TellsLine strict way l can_fail name formula old new result = (text : List ℕ) → formula ≡ Some text
-    → MatchResult result (HasTold strict way l can_fail name text old new) (λ fault. HasBegunToTell strict way l can_fail name text old new)
+TellsLine strict way l can_fail name formula old new result = (text : List ℕ) → formula ≡ Some text → HasTold strict way l can_fail name text old new result

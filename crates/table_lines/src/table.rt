@@ -1,17 +1,13 @@
 // A table: the answers of one system to many formulas, a line for each.
 
-ghost use Rattle.std.specs.Prelude.{◌≡◌, ℕ, List, take, length, count_by, slice_index_or, false, Some, IfErr, IfOk, MatchResult, if◌then◌else◌};
+ghost use Rattle.std.specs.Prelude.{◌≡◌, ℕ, List, Some, Ok, Err, false, IfErr, MatchResult, if◌then◌else◌};
 ghost use Rattle.calculus.specs.Closed.{closed_formula};
 ghost use Rattle.text.specs.Cause.{HasCause};
 ghost use Rattle.text.specs.Wrote.{Wrote};
 ghost use Rattle.requests.specs.declared.error.MuError.TheVariants as error;
-ghost use Rattle.requests.specs.declared.texts.TheConstants.{FORMULA_BYTES};
-ghost use Rattle.table_lines.specs.Found.{IsFound};
-ghost use Rattle.requests.specs.Status.{error_status as status_of_error};
 ghost use Rattle.requests.specs.Check.{AreMarks, IsBeyond};
-ghost use Rattle.requests.specs.Known.{AreKnown};
 ghost use Rattle.requests.specs.Texts.{IsFormulaOf};
-ghost use Rattle.table_lines.specs.Table.{IsRefused, TellsLine, answer_line, code_of, fault_code, is_as_expected, name_end, place_of, refusal_line, remark, way_by};
+ghost use Rattle.table_lines.specs.Table.{IsFound, IsRefused, TellsLine, answer_line, code_of, fault_code, is_as_expected, refusal_line, remark, way_by};
 
 use crate::expectation::expectation;
 use calculus::closed::Closed;
@@ -19,7 +15,7 @@ use formula::error::{FormulaError, FormulaFault};
 use game::error::BuildError;
 use game::observer::{Observer, Stage};
 use lts::system::Lts;
-use lts::{Piece, WriteFault, put, put_pieces};
+use lts::{Piece, WriteFault, put_pieces};
 use normal::error::NormalError;
 use requests::error::MuError;
 use requests::report::marked;
@@ -29,7 +25,6 @@ use requests::texts::{look_where, parse_front, read_front};
 use requests::watch::Watcher;
 use std::alloc::Global;
 use tables::error::TableError;
-use text::put_number;
 use text::sink::Sink;
 use text::source::Source;
 use verdicts::marks::{game_marks, plain_marks};
@@ -66,9 +61,20 @@ pub fn table_line<S: Source + Drop, W: Sink, U: Watcher, H: Runtime>(
         (S.remaining formula) (W.taken out.old) (W.taken out.new) result }
 {
     match find(rt, alloc, system, request, formula, watcher) {
-        Ok(found) => tell_answer(name, &found, system.states(), out),
-        Err(error) => tell_refusal(name, &error, out),
+        Ok(found) => told(
+            put_answer(name, &found, system.states(), out),
+            answer_status(&found),
+        ),
+        Err(error) => told(put_refusal(name, &error, out), error_status(&error)),
     }
+}
+
+/// The status, where the line was written.
+fn told(wrote: Result<(), WriteFault>, status: u8) -> Result<u8, WriteFault>
+    ensures { MatchResult wrote (λ _. result ≡ Ok status) (λ fault. result ≡ Err fault) }
+{
+    wrote?;
+    Ok(status)
 }
 
 /// What is found of the formula that the reader's text spells.
@@ -85,24 +91,8 @@ fn find<S: Source + Drop, U: Watcher, H: Runtime>(
     ensures cause { IfErr result (HasCause S.can_fail error.Read) }
 {
     let front = read_front(alloc, formula)?;
-    find_in(rt, alloc, system, request, &front, watcher)
-}
-
-/// What is found of the formula that a text spells, of which this is all, or the front that shows that it is too long.
-fn find_in<U: Watcher, H: Runtime>(
-    rt: &H,
-    alloc: Global,
-    system: &Lts,
-    request: &Table<'_>,
-    front: &[u8],
-    watcher: &U,
-) -> Result<LineAnswer, MuError>
-    ensures finds { let strict = request.now.strict in let way = way_by request.now.options request.now.plain in let l = system.now.system in
-        (text : List ℕ) → front.now ≡ take FORMULA_BYTES text → MatchResult result (IsFound strict way l text) (IsRefused strict way l text) }
-    ensures cause { IfErr result (HasCause false error.Read) }
-{
-    let formula = parse_front(alloc, front)?;
-    find_known(rt, alloc, system, request, front, &formula, watcher)
+    let formula = parse_front(alloc, &front)?;
+    find_known(rt, alloc, system, request, &front, &formula, watcher)
 }
 
 /// What is found of a formula with this text, of which each word has to be on a transition where the table is strict.
@@ -121,27 +111,13 @@ fn find_known<U: Watcher, H: Runtime>(
 {
     watcher.has_read(system, formula);
     look_where(alloc, system, text, request.strict)?;
-    find_marked(rt, alloc, system, request, text, formula, watcher)
-}
-
-/// What is found of it where its words are on transitions, or may be on none.
-fn find_marked<U: Watcher, H: Runtime>(
-    rt: &H,
-    alloc: Global,
-    system: &Lts,
-    request: &Table<'_>,
-    text: &[u8],
-    formula: &Closed,
-    watcher: &U,
-) -> Result<LineAnswer, MuError>
-    ensures finds { let strict = request.now.strict in let way = way_by request.now.options request.now.plain in let l = system.now.system in
-        IsFormulaOf text.now (closed_formula formula.now) → AreKnown strict l text.now
-        → MatchResult result (IsFound strict way l text.now) (IsRefused strict way l text.now) }
-    ensures cause { IfErr result (HasCause false error.Read) }
-{
     let options = &request.options;
     let marks = marks_by(rt, alloc, system, formula, options, request.plain, watcher)?;
-    Ok(found_of(system, &marks, expectation(text)))
+    Ok(LineAnswer {
+        expected: expectation(text),
+        answer: marks[system.initial() as usize],
+        marked: marked(&marks),
+    })
 }
 
 /// A mark for each state, true where it satisfies the formula: by sets of states where it is plain, else by the game, as the
@@ -169,44 +145,6 @@ fn marks_by<O: Observer + Sync, H: Runtime>(
     } else {
         game_marks(rt, alloc, system, formula, options, observer)
     }
-}
-
-/// What is found where these states satisfy the formula.
-fn found_of(system: &Lts, marks: &[bool], expected: Option<bool>) -> LineAnswer
-    requires { length marks.now ≡ system.now.system.states }
-    ensures expected { result.expected ≡ expected }
-    ensures answer { result.answer ≡ slice_index_or marks.now system.now.system.initial false }
-    ensures marked { result.marked ≡ count_by (λ mark. mark) marks.now }
-{
-    LineAnswer {
-        expected,
-        answer: marks[system.initial() as usize],
-        marked: marked(marks),
-    }
-}
-
-/// Writes the line of an answer, and answers its status.
-fn tell_answer<W: Sink>(
-    name: &str,
-    found: &LineAnswer,
-    states: u32,
-    out: &mut W,
-) -> Result<u8, WriteFault>
-    ensures wrote { Wrote (W.taken out.old) (W.taken out.new) result
-        (answer_line name.now found.now.expected found.now.answer found.now.marked states) }
-    ensures status { IfOk result (λ status. status ≡ (if is_as_expected found.now.expected found.now.answer then 0 else 1)) }
-{
-    put_answer(name, found, states, out)?;
-    Ok(answer_status(found))
-}
-
-/// Writes the line of a refusal, and answers its status.
-fn tell_refusal<W: Sink>(name: &str, error: &MuError, out: &mut W) -> Result<u8, WriteFault>
-    ensures wrote { Wrote (W.taken out.old) (W.taken out.new) result (refusal_line name.now error.now) }
-    ensures status { IfOk result (λ status. status ≡ status_of_error error.now) }
-{
-    put_refusal(name, error, out)?;
-    Ok(error_status(error))
 }
 
 /// 0 where the answer is as expected, which is yes where nothing is said, and 1 where it isn't.
@@ -262,44 +200,23 @@ fn remark(found: &LineAnswer) -> &'static [u8]
     }
 }
 
-/// Writes the line of a refusal.
+/// Writes the line of a refusal, with its place in the formula's text, if it has one.
 fn put_refusal<W: Sink>(name: &str, error: &MuError, out: &mut W) -> Result<(), WriteFault>
     ensures { Wrote (W.taken out.old) (W.taken out.new) result (refusal_line name.now error.now) }
 {
-    put_code(error, out)?;
-    put_place(error, out)?;
-    put_name(name, out)
-}
-
-/// Writes the code of a refusal.
-fn put_code<W: Sink>(error: &MuError, out: &mut W) -> Result<(), WriteFault>
-    ensures { Wrote (W.taken out.old) (W.taken out.new) result (code_of error.now) }
-{
-    put(out, code(error))
-}
-
-/// Writes a blank, the name, and the line's end.
-fn put_name<W: Sink>(name: &str, out: &mut W) -> Result<(), WriteFault>
-    ensures { Wrote (W.taken out.old) (W.taken out.new) result (name_end name.now) }
-{
-    put_pieces(
-        out,
-        &[
-            Piece::Bytes(b" "),
-            Piece::Bytes(name.as_bytes()),
-            Piece::Bytes(b"\n"),
-        ],
-    )
-}
-
-/// Writes the place of a refusal in the formula's text, if it has one.
-fn put_place<W: Sink>(error: &MuError, out: &mut W) -> Result<(), WriteFault>
-    ensures { Wrote (W.taken out.old) (W.taken out.new) result (place_of error.now) }
-{
+    let code = Piece::Bytes(code(error));
+    let name = Piece::Bytes(name.as_bytes());
+    let (blank, end) = (Piece::Bytes(b" "), Piece::Bytes(b"\n"));
     match error {
         MuError::Formula(FormulaError::Fault { fault: _, offset }) | MuError::NoLabel { offset } =>
-            put_number(out, b" at offset ", *offset),
-        _ => Ok(()),
+            {
+                let place = Piece::Number(*offset as u64);
+                put_pieces(
+                    out,
+                    &[code, Piece::Bytes(b" at offset "), place, blank, name, end],
+                )
+            }
+        _ => put_pieces(out, &[code, blank, name, end]),
     }
 }
 
