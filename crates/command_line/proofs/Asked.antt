@@ -28,22 +28,20 @@ abbrev pub AreRead : {E : Type 0} → Option Text → Result (Option ℕ) E → 
 AreRead text (Ok found) = (found ≡ option_map number_of text) × IfSome text (IsNumeralWithin 0 4294967295)
 AreRead text (Err e) = IfSome text (IsNumeralWithin 0 4294967295) → ⊥
 
--- what was tried to be read
-pub number_read : (E : Type 0) (G : List ℕ → Result ℕ E → Type 0) (f : Found) (id : Text) (r : Result (Option ℕ) E)
-    → ((t : List ℕ) (x : Result ℕ E) → G t x → ParsesUnsigned 32 10 t x)
-    → (one_text f id ≡ None → r ≡ Ok None) → ((t : List ℕ) → one_text f id ≡ Some t → TriesOne G t r)
-    → AreRead (one_of id (rows_of f)) r
-number_read E G f id r reads none value = go (one_text f id) refl
+-- what was tried to be read, and came to this
+pub number_read : (E : Type 0) (G H : List ℕ → Result ℕ E → Type 0) (f : Found) (id : Text) (r s : Result (Option ℕ) E) → r ≡ s
+    → (one_text f id ≡ None → r ≡ Ok None) → ((t : List ℕ) → one_text f id ≡ Some t → TriesOne (λ t x. ParsesUnsigned 32 10 t x × G t x × H t x) t r)
+    → AreRead (one_of id (rows_of f)) s
+number_read E G H f id r s same none value = subst (AreRead (one_of id (rows_of f))) same (go (one_text f id) refl)
   where
-    tried : (t : List ℕ) (x : Result (Option ℕ) E) → TriesOne G t x → AreRead (Some t) x
+    tried : (t : List ℕ) (x : Result (Option ℕ) E) → TriesOne (λ t x. ParsesUnsigned 32 10 t x × G t x × H t x) t x → AreRead (Some t) x
     tried t (Ok None) h = absurd h
     tried t (Ok (Some n)) h =
-        let read = reads t (Ok n) h in
-        let fits = read.0.1 in
-        (ap Some read.1, record { numeral = read.0.0; above = omega arith; below = omega arith })
+        let fits = h.0.0.1 in
+        (ap Some h.0.1, record { numeral = h.0.0.0; above = omega arith; below = omega arith })
     tried t (Err e) h = λ within.
         let below = within.below in
-        reads t (Err e) h (within.numeral, omega arith)
+        h.0 (within.numeral, omega arith)
 
     go : (o : Option Text) → one_text f id ≡ o → AreRead (one_of id (rows_of f)) r
     go None e =

@@ -5,18 +5,10 @@ use Rattle.clap.specs.Words.{App, Row, Text, takes}
 use Rattle.requests.specs.declared.error.MuError.{MuError}
 use Rattle.requests.specs.declared.error.MuError.TheVariants as error
 use Rattle.requests.specs.declared.request.Check.{Check as CheckRequest}
-use Rattle.requests.specs.declared.request.Normalize.{Normalize}
-use Rattle.requests.specs.declared.request.Replay.{Replay as ReplayRequest}
-use Rattle.requests.specs.declared.request.Solve.{Solve as SolveRequest}
-use Rattle.requests.specs.declared.request.Table.{Table as TableRequest}
-use Rattle.requests.specs.declared.request.Verify.{Verify as VerifyRequest}
-use Rattle.requests.specs.declared.request.Why.{Why as WhyRequest}
 use Rattle.command_line.specs.declared.request.Command.{Command}
-use Rattle.command_line.specs.declared.request.Command.TheVariants.{Check, Explain, Help, Labels, Normal, Replay, Solve, Table, Verify, Why}
-use Rattle.command_line.specs.declared.request.Labels.{Labels as LabelsRequest}
+use Rattle.command_line.specs.declared.request.Command.TheVariants.{Check}
 use Rattle.command_line.specs.declared.request.Outputs.{Outputs}
-use Rattle.command_line.specs.CommandLine.{AsksLabels, AsksReplay, HasArguments, IsCommand, IsFile, IsFileIfAny, IsNormal, IsSolve, IsTableRequest, IsVerify}
-use Rattle.command_line.specs.CommandLine.{IsWhy, word_of}
+use Rattle.command_line.specs.CommandLine.{HasArguments, IsCommand, word_of}
 use Rattle.command_table.specs.Table.{IsCommandTable}
 use Rattle.command_line.specs.Refused.{IsLineError, Finds}
 use Rattle.command_line.specs.Refusals.{IsUntaken}
@@ -54,43 +46,8 @@ is_untaken words app table e line wants = absurd line
 abbrev key : Text → ℕ
 key name = slice_index name 0 * 256 + slice_index name 3
 
--- what a command of each name has
-
+-- what a check has
 pub of_check : (name : Text) (rows : List Row) → name ≡ codes "check" → (command : Command) → IsCommand name rows command
     → (both : CheckRequest × Outputs) × HasArguments rows (Check both.0 both.1)
 of_check name rows named (Check check outputs) is = ((check, outputs), is.1)
 of_check name rows named command is = let other : key (codes "check") ≡ key (word_of command) = ap key (sym named ∙ is.0) in absurd (omega arith)
-
-pub of_why : (name : Text) (rows : List Row) → name ≡ codes "why" → (command : Command) → IsCommand name rows command → (why : WhyRequest) × IsWhy rows why
-of_why name rows named (Why why) is = (why, is.1)
-of_why name rows named command is = let other : key (codes "why") ≡ key (word_of command) = ap key (sym named ∙ is.0) in absurd (omega arith)
-
-pub of_table : (name : Text) (rows : List Row) → name ≡ codes "table" → (command : Command) → IsCommand name rows command
-    → (table : TableRequest) × IsTableRequest rows table
-of_table name rows named (Table table) is = (table, is.1)
-of_table name rows named command is = let other : key (codes "table") ≡ key (word_of command) = ap key (sym named ∙ is.0) in absurd (omega arith)
-
-pub of_labels : (name : Text) (rows : List Row) → name ≡ codes "labels" → (command : Command) → IsCommand name rows command
-    → (labels : LabelsRequest) × AsksLabels rows labels
-of_labels name rows named (Labels labels) is = (labels, is.1)
-of_labels name rows named command is = let other : key (codes "labels") ≡ key (word_of command) = ap key (sym named ∙ is.0) in absurd (omega arith)
-
-pub of_normal : (name : Text) (rows : List Row) → name ≡ codes "normal" → (command : Command) → IsCommand name rows command
-    → (form : Normalize) × IsNormal rows form
-of_normal name rows named (Normal form) is = (form, is.1)
-of_normal name rows named command is = let other : key (codes "normal") ≡ key (word_of command) = ap key (sym named ∙ is.0) in absurd (omega arith)
-
-pub of_solve : (name : Text) (rows : List Row) → name ≡ codes "solve" → (command : Command) → IsCommand name rows command
-    → (solve : SolveRequest) × IsSolve rows solve
-of_solve name rows named (Solve solve) is = (solve, is.1)
-of_solve name rows named command is = let other : key (codes "solve") ≡ key (word_of command) = ap key (sym named ∙ is.0) in absurd (omega arith)
-
-pub of_verify : (name : Text) (rows : List Row) → name ≡ codes "verify" → (command : Command) → IsCommand name rows command
-    → (verify : VerifyRequest) × IsVerify rows verify
-of_verify name rows named (Verify verify) is = (verify, is.1)
-of_verify name rows named command is = let other : key (codes "verify") ≡ key (word_of command) = ap key (sym named ∙ is.0) in absurd (omega arith)
-
-pub of_replay : (name : Text) (rows : List Row) → name ≡ codes "replay" → (command : Command) → IsCommand name rows command
-    → (replay : ReplayRequest) × AsksReplay rows replay
-of_replay name rows named (Replay replay) is = (replay, is.1)
-of_replay name rows named command is = let other : key (codes "replay") ≡ key (word_of command) = ap key (sym named ∙ is.0) in absurd (omega arith)

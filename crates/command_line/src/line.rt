@@ -4,33 +4,9 @@ ghost use Rattle.std.specs.Prelude.{◌≡◌, ◌≤◌, ⊤, IfErr, IfOk, IfSo
 ghost use Rattle.std.specs.List.{list_all};
 ghost use Rattle.std.specs.String.{string_bytes};
 ghost use Rattle.clap.specs.Words.{first_of, found_of, kind_of, rows_of, subcommand_rows_of};
-ghost use Rattle.command_line.specs.CommandLine.{
-  AreFiles,
-  AreMatchesOf,
-  AreOptions,
-  AreOutputs,
-  AsksReplay,
-  HasArguments,
-  IsAskedFor,
-  IsCommand,
-  IsFile,
-  IsFileIfAny,
-  IsNumber,
-  IsRead,
-  IsReportForm,
-  IsSolve,
-  IsTableRequest,
-  IsVerify,
-  IsWhy,
-  IsWithin,
-  board_in,
-  form_by,
-  has_value,
-  is_named,
-  number_in,
-  priorities_in,
-  states_by,
-};
+ghost use Rattle.command_line.specs.CommandLine.{AreFiles, AreMatchesOf, AreOptions, AreOutputs, AsksReplay, HasArguments, IsAskedFor, IsCommand, IsFile};
+ghost use Rattle.command_line.specs.CommandLine.{IsFileIfAny, IsNumber, IsRead, IsReportForm, IsSolve, IsTableRequest, IsVerify, IsWhy, IsWithin};
+ghost use Rattle.command_line.specs.CommandLine.{board_in, form_by, has_value, is_named, number_in, priorities_in, states_by};
 ghost use Rattle.command_line.specs.Files.{ReadsItOnce};
 ghost use Rattle.command_line.specs.Names.{KeepsFiles};
 ghost use Rattle.command_line.specs.Refused.{Finds, IsLineError};

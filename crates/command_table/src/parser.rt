@@ -2,24 +2,8 @@
 
 ghost use Rattle.std.specs.Prelude.{IfOk, IsOkAnd, Some, codes};
 ghost use Rattle.clap.specs.Words.{AddsArg, AddsSubcommand, app_of, new_app};
-ghost use Rattle.command_table.specs.Table.{
-  IsCommandTable,
-  check_rules,
-  choice_rule,
-  explain_rules,
-  file_rule,
-  flag_rule,
-  help_rules,
-  labels_rules,
-  lifting_rules,
-  normal_rules,
-  replay_rules,
-  solve_rules,
-  table_rules,
-  value_rule,
-  verify_rules,
-  why_rules,
-};
+ghost use Rattle.command_table.specs.Table.{IsCommandTable, check_rules, choice_rule, explain_rules, file_rule, flag_rule, help_rules, labels_rules};
+ghost use Rattle.command_table.specs.Table.{lifting_rules, normal_rules, replay_rules, solve_rules, table_rules, value_rule, verify_rules, why_rules};
 ghost use Rattle.command_table.specs.Parsers.{AddsRules, HasRule, ReadsBy, command_app, within};
 
 use clap::builder::ValueParser;

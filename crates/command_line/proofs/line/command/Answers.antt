@@ -1,25 +1,11 @@
-use Rattle.std.proofs.Common.{◌∙◌, subst, sym, true≢false}
-use Rattle.command_line.specs.CommandLine.{IsRead}
-use Rattle.command_line.specs.Refusals.{destructive, incomplete, repeated, untaken}
+use Rattle.std.proofs.Common.{◌∙◌, sym, true≢false}
+use Rattle.command_line.specs.Refusals.{destructive, repeated}
 use Rattle.command_line.proofs.Asked.{asked_by}
 use Rattle.command_line.proofs.Refusals.{handed_on}
 use Rattle.command_line.proofs.line.command.Goals as goal
 
 pub returns-then-reads_once-clause-asked : goal.returns-then-reads_once-clause-asked
 returns-then-reads_once-clause-asked c = asked_by _ _ _ c.in_ok-matches.ensures.found c.in_ok-command.ensures
-
-pub returns-in_err-matches-clause-refused : goal.returns-in_err-matches-clause-refused
-returns-in_err-matches-clause-refused c = handed_on _ _ (λ without. untaken without) _ _ c.from_residual.ensures.1 c.in_err-matches.ensures.refused
-
-pub returns-in_err-command-clause-refused : goal.returns-in_err-command-clause-refused
-returns-in_err-command-clause-refused c =
-    let found = c.in_ok-matches.ensures.found in
-    handed_on _ _ (λ none. incomplete (record {
-      app = found.app;
-      table = found.table;
-      none = λ command read. none command
-          (subst (λ o. IsRead o command) (sym found.rows) read);
-    })) _ _ c.from_residual-in_err-command.ensures.1 c.in_err-command.ensures
 
 pub returns-in_err-keep_files-clause-refused : goal.returns-in_err-keep_files-clause-refused
 returns-in_err-keep_files-clause-refused c =
