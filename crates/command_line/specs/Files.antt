@@ -7,7 +7,7 @@ use Rattle.requests.specs.declared.error.CheckFile.{CheckFile}
 use Rattle.requests.specs.declared.error.CheckFile.TheVariants.{SolvedGame, System}
 use Rattle.requests.specs.declared.request.ReportForm.TheVariants.{Whole}
 use Rattle.command_line.specs.declared.request.Command.{Command}
-use Rattle.command_line.specs.declared.request.Command.TheVariants.{Check, Explain, Help, Labels, Normal, Replay, Solve, Table, Verify, Version, Why}
+use Rattle.command_line.specs.declared.request.Command.TheVariants.{Check, Labels, Normal, Replay, Solve, Table, Verify, Why}
 use Rattle.command_line.specs.declared.request.Outputs.{Outputs}
 
 -- the files that a command reads, but for a table's formulas: the system or the game, the formula, the evidence or the schedule, the other evidence

@@ -1,5 +1,5 @@
 -- What was solved, and written of it.
-use Rattle.std.proofs.Common.{◌≡◌, ◌≤◌, ℕ, List, Bool, true, false, Some, Result, Ok, Err, inl, inr, refl, subst, sym}
+use Rattle.std.proofs.Common.{◌≡◌, ◌≤◌, ℕ, List, Bool, true, false, Some, Result, Ok, Err, inr, refl, subst, sym}
 use Rattle.std.specs.Prelude.{◌↔◌, IsTrue}
 use Rattle.text.proofs.Writing.{Stays-refl}
 use Rattle.text.specs.Taken.{Taken}
@@ -17,10 +17,10 @@ use Rattle.requests.proofs.Orders.{unasked}
 use Rattle.requests.specs.declared.error.MuError.{MuError}
 use Rattle.requests.specs.declared.error.MuError.TheVariants as error
 use Rattle.requests.specs.declared.request.ReportForm.TheVariants.{Whole}
-use Rattle.requests.specs.Solver.{FitsBoard, IsUnsolved}
-use Rattle.requests.specs.Writers.{EvenText, Lent, IsLentFor, AreKept, AreWritten, report_writer}
+use Rattle.requests.specs.Solver.{FitsBoard}
+use Rattle.requests.specs.Writers.{Lent, AreKept, AreWritten, report_writer}
 use Rattle.commands.specs.Answers.{IsAnswer}
-use Rattle.commands.specs.Solves.{AnswersSolve, GivesNoGame, HasSolved, IsSolveText, IsUnproved, solve_writers}
+use Rattle.commands.specs.Solves.{AnswersSolve, HasSolved, IsSolveText, solve_writers}
 use Rattle.commands.specs.Spelled.{IsGameOf}
 use Rattle.commands.specs.Winners.{AreWinners}
 

@@ -1,9 +1,8 @@
-use Rattle.std.proofs.Common.{[], ◌∙◌, Some, rules, subst, sym}
+use Rattle.std.proofs.Common.{[], ◌∙◌, Some, rules}
 use Rattle.text.proofs.Writing.{Stays-refl}
 use Rattle.calculus.specs.Closed.{closed_formula}
 use Rattle.requests.proofs.Readings.{was_err, was_ok, was_turned}
 use Rattle.requests.specs.Check.{BySets}
-use Rattle.commands.specs.Answers.{Answers}
 use Rattle.commands.specs.Labels.{IsListed, RefusesLabels}
 use Rattle.commands.proofs.Answered.{refused}
 use Rattle.commands.proofs.Listed.{refused_texts, text_given}

@@ -1,4 +1,4 @@
-use Rattle.std.proofs.Common.{[], rules}
+use Rattle.std.proofs.Common.{[]}
 use Rattle.requests.proofs.Readings.{was_err}
 use Rattle.commands.specs.Replays.{IsReplayed, RefusesReplay, way}
 use Rattle.commands.proofs.Answered.{refused}
