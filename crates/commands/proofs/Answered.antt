@@ -6,10 +6,10 @@ use Rattle.text.specs.Wrote.{Wrote}
 use Rattle.text.specs.declared.write_loop.WriteFault.{WriteFault}
 use Rattle.requests.specs.declared.error.MuError.{MuError}
 use Rattle.requests.specs.declared.error.MuError.TheVariants as error
-use Rattle.commands.specs.Answers.{Answers, IsAnswer}
+use Rattle.commands.specs.Answers.{Answers, IsAnswerTo}
 
 pub written : (IsText : Bool → List ℕ → Type 0) (Refuses : MuError → Type 0) (old new : Taken) (answer : Bool) (text : List ℕ) (wrote : Result Unit WriteFault)
-    (r : Result Bool MuError) → IsText answer text → Wrote old new wrote text → IsAnswer wrote answer r → Answers IsText Refuses old new r
+    (r : Result Bool MuError) → IsText answer text → Wrote old new wrote text → IsAnswerTo wrote answer r → Answers IsText Refuses old new r
 written IsText Refuses old new answer text (Ok u) r is h e = subst (Answers IsText Refuses old new) (sym e) (text, is, h)
 written IsText Refuses old new answer text (Err fault) r is h e = subst (Answers IsText Refuses old new) (sym e) (answer, text, is, h)
 

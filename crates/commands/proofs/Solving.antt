@@ -18,8 +18,8 @@ use Rattle.requests.specs.declared.error.MuError.{MuError}
 use Rattle.requests.specs.declared.error.MuError.TheVariants as error
 use Rattle.requests.specs.declared.request.ReportForm.TheVariants.{Whole}
 use Rattle.requests.specs.Solver.{FitsBoard}
-use Rattle.requests.specs.Writers.{Lent, AreKept, AreWritten, report_writer}
-use Rattle.commands.specs.Answers.{IsAnswer}
+use Rattle.requests.specs.Writers.{Lent, AreWritten, report_writer}
+use Rattle.commands.specs.Answers.{IsAnswerTo}
 use Rattle.commands.specs.Solves.{AnswersSolve, HasSolved, IsSolveText, solve_writers}
 use Rattle.commands.specs.Spelled.{IsGameOf}
 use Rattle.commands.specs.Winners.{AreWinners}
@@ -45,19 +45,16 @@ beside_report board text even odd old new r h = by r h
       answered = h.answered;
     }
 
-    kept : AreKept (report_writer Whole old new) → AreKept (solve_writers false even even odd odd old new)
-    kept k = (Stays-refl even, (Stays-refl odd, k))
-
     by : (r : Result Bool MuError) → AnswersSolve board text (report_writer Whole old new) r → AnswersSolve board text (solve_writers false even even odd odd old new) r
     by (Ok a) h = more (Ok a) h
     by (Err (error.Write fault)) h = more (Err (error.Write fault)) h
-    by (Err (error.Evidence e)) h = (record { g = h.0.g; game = h.0.game; fits = h.0.fits; asked = inr (inr h.0.asked); memory = h.0.memory }, kept h.1)
-    by (Err e) h = (h.0, kept h.1)
+    by (Err (error.Evidence e)) h = (record { g = h.0.g; game = h.0.game; fits = h.0.fits; asked = inr (inr h.0.asked); memory = h.0.memory }, (Stays-refl even, (Stays-refl odd, h.1)))
+    by (Err e) h = (h.0, (Stays-refl even, (Stays-refl odd, h.1)))
 
 -- All was written, or a beginning.
 pub solved_of : (board : BoardKind) (text : List ℕ) (g : Game) (marks : List Bool) (writers : List Lent) (wrote : Result Unit WriteFault)
     (r : Result Bool MuError) → IsGameOf text g → FitsBoard (Some board) g → AreWinners g marks → AreWritten (IsSolveText g marks) writers wrote
-    → IsAnswer wrote true r → AnswersSolve board text writers r
+    → IsAnswerTo wrote true r → AnswersSolve board text writers r
 solved_of board text g marks writers (Ok u) r is fits exact written e = subst (AnswersSolve board text writers) (sym e)
     (record { g = g; marks = marks; game = is; fits = fits; exact = exact; written = written; answered = refl })
 solved_of board text g marks writers (Err fault) r is fits exact written e = subst (AnswersSolve board text writers) (sym e)

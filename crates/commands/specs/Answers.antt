@@ -13,5 +13,5 @@ Answers IsText Refuses old new (Err (error.Write fault)) = (answer : Bool) × (t
 Answers IsText Refuses old new (Err e) = Refuses e × Stays old new
 
 -- what a command answers that has written, or began to
-abbrev pub IsAnswer : Result Unit WriteFault → (answer : Bool) → Result Bool MuError → Type 0
-IsAnswer wrote answer result = MatchResult wrote (λ _. result ≡ Ok answer) (λ fault. result ≡ Err (error.Write fault))
+abbrev pub IsAnswerTo : Result Unit WriteFault → (answer : Bool) → Result Bool MuError → Type 0
+IsAnswerTo wrote answer result = MatchResult wrote (λ _. result ≡ Ok answer) (λ fault. result ≡ Err (error.Write fault))

@@ -1,6 +1,6 @@
 // What commands answer.
 
-ghost use Rattle.commands.specs.Answers.{IsAnswer};
+ghost use Rattle.commands.specs.Answers.{IsAnswerTo};
 
 use lts::WriteFault;
 use requests::error::MuError;
@@ -10,7 +10,7 @@ use requests::error::MuError;
 /// # Errors
 /// W1.
 pub(crate) fn answered(wrote: Result<(), WriteFault>, answer: bool) -> Result<bool, MuError>
-    ensures { IsAnswer wrote answer result }
+    ensures { IsAnswerTo wrote answer result }
 {
     wrote.map_err(MuError::Write)?;
     Ok(answer)
