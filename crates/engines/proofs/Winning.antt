@@ -1,11 +1,13 @@
 -- Evidence that has the initial state's vertex with the root node.
-use Rattle.std.proofs.Common.{◌≡◌, ◌<◌, ℕ, Bool, false, Some, inl, inr, refl, sym, ap, ◌∙◌, subst, true≢false}
-use Rattle.std.specs.Prelude.{IsTrue, ◌↔◌, ◌⊎◌, IfOk, List, Result, Ok, Err, slice_index_or}
+use Rattle.std.proofs.Common.{◌≡◌, ◌<◌, ◌≤◌, ℕ, Bool, false, true, Option, Some, inl, inr, refl, sym, ap, ◌∙◌, subst, true≢false}
+use Rattle.std.specs.Bool.{then_some}
+use Rattle.std.specs.Prelude.{IfSome, IsTrue, ◌↔◌, ◌⊎◌, IfOk, List, Result, Ok, Err, slice_index_or}
 use Rattle.std.specs.Arc.{arc_value}
 use Rattle.systems.specs.Numbered.{IsInside, system_with}
 use Rattle.systems.specs.System.{System}
 use Rattle.systems.specs.declared.system.Transition.{Transition}
 use Rattle.calculus.specs.Admitted.{IsAdmitted}
+use Rattle.calculus.specs.declared.limits.TheConstants.{GREATEST_PRIORITY}
 use Rattle.calculus.specs.Closed.{closed_formula}
 use Rattle.calculus.specs.Meaning.{MarksOf}
 use Rattle.calculus.specs.Tree.{Formula}
@@ -14,13 +16,16 @@ use Rattle.calculus.specs.Normal.{normal_nodes}
 use Rattle.calculus.specs.Rules.{nodes_with}
 use Rattle.calculus.specs.declared.priorities.Priorities.{Priorities}
 use Rattle.calculus.specs.NormalTree.{normal_form}
-use Rattle.game.specs.Game.{Game, IsGame}
+use Rattle.game.specs.declared.player.Player.{Player}
+use Rattle.game.specs.declared.player.Player.TheVariants.{Even, Odd}
+use Rattle.game.specs.Game.{Game, IsGame, greatest}
 use Rattle.game.specs.Wins.{OddWins}
 use Rattle.measures.specs.Laws.{OneWins}
 use Rattle.laws.specs.Admissible.{IsNodes}
 use Rattle.laws.specs.Laws.{ChosenIsAdmissible}
-use Rattle.evidence.specs.Best.{IsEvenOf, IsOddOf}
+use Rattle.evidence.specs.Best.{IsBestOf, IsEvenOf, IsOddOf}
 use Rattle.evidence.specs.Evidence.{IsEvidence, IsGood, has}
+use Rattle.evidence.proofs.BestGood.{even_is_good, odd_is_good}
 use Rattle.evidence.specs.View.{NamedEvidence}
 use Rattle.witness.specs.Witness.{GoesOneWay, HasTaken, IsShown, IsWitness, root_of}
 use Rattle.game.specs.Arena.{arena, place_in}
@@ -117,3 +122,15 @@ pub parts_shown : {A E : Type 0} → (items : A → List Transition) (t : Texts)
 parts_shown items t nodes g e (Ok p) chosen play inside taken witness = λ rule same.
     shown_of rule t nodes g e (items p) chosen play inside taken witness same
 parts_shown items t nodes g e (Err x) chosen play inside taken witness = tt
+
+-- The evidence by a player's least measures that has the initial state's vertex with the root node
+pub least_played : (l : System) (nodes : List Node) (g : Game) (p : Player) (e : NamedEvidence) → g ≡ arena l nodes → e.game ≡ g → IsEvidence e.game e.evidence
+    → IsGame g → greatest g ≤ GREATEST_PRIORITY → IsBestOf p g e.evidence → IsTrue (has e.evidence (root_of l nodes)) → IsPlay l nodes g e
+least_played l nodes g Even e game same is whole few best root =
+    played l nodes g e game same is (even_is_good g whole e.evidence best).1 root (inr (inl best))
+least_played l nodes g Odd e game same is whole few best root =
+    played l nodes g e game same is (odd_is_good g whole few e.evidence best).1 root (inr (inr best))
+
+pub kept_where : {A : Type 0} → (P : A → Type 0) (b : Bool) (x : A) (o : Option A) → o ≡ then_some b x → (IsTrue b → P x) → IfSome o P
+kept_where P true x o is here = subst (λ z. IfSome z P) (sym is) (here refl)
+kept_where P false x o is here = subst (λ z. IfSome z P) (sym is) tt

@@ -7,14 +7,14 @@ ghost use Rattle.calculus.specs.Normal.{normal_nodes};
 ghost use Rattle.calculus.specs.declared.priorities.Priorities.{Priorities};
 ghost use Rattle.game.specs.Arena.{arena};
 ghost use Rattle.requests.specs.Check.{ByGame};
-ghost use Rattle.requests.specs.Solver.{FitsBoard};
 ghost use Rattle.workers.specs.declared.team.BoardKind.{BoardKind};
 ghost use Rattle.verdicts.specs.Findings.{AreFindings, ArePosed, IsRankedFound, way_in};
-ghost use Rattle.engines.specs.Play.{HasNoPlay, IsPlay, IsPlayFound, system_played};
+ghost use Rattle.engines.specs.Play.{HasNoPlay, IsPlay, IsPlayFound, IsUnshown, system_played};
 ghost use Rattle.engines.specs.Prepared.{IsWinning};
 
-use crate::prepared::{winner_evidence, winning_evidence};
+use crate::prepared::winning_evidence;
 use calculus::form::Normal;
+use evidence::error::EvidenceError;
 use evidence::evidence::Evidence;
 use game::graph::Game;
 use game::observer::{Observer, Stage};
@@ -27,9 +27,12 @@ use requests::texts::Texts;
 use requests::watch::Watcher;
 use std::alloc::Global;
 use std::sync::Arc;
-use verdicts::findings::{Findings, GameToSolve, boxed, build_with, find_by_game, find_guessed};
+use verdicts::evidence_text::LeastMeasures;
+use verdicts::findings::{Findings, GameToSolve, boxed, build_with, find_by_game};
 use verdicts::lifting::SolvedGame;
+use verdicts::proposing::least_of;
 use verdicts::ranked::RankedFound;
+use witness::part::{has_root, root_vertex};
 use workers::runtime::Runtime;
 
 /// Both texts, the formula's normal form and the game of both, evidence of who wins the initial state's vertex with the root, and a mark for each state, true
@@ -106,57 +109,35 @@ fn play_by_ranking<U: Watcher, H: Runtime>(
     watcher.sees(Stage::MakingEvidence {
         vertices: posed.game.vertices(),
     });
-    match ranked_lasso(alloc, &posed, &sheet)? {
-        Some(evidence) => {
-            let GameToSolve {
-                texts,
-                form,
-                game,
-                ..
-            } = posed;
-            Ok(PlayFound {
-                texts,
-                form,
-                game,
-                evidence,
-                marks,
-            })
-        }
-        None => play_without_lasso(rt, alloc, posed, options, watcher),
+    let evidence = ranked_evidence(alloc, &posed, &sheet)?;
+    let GameToSolve {
+        texts,
+        form,
+        game,
+        ..
+    } = posed;
+    match evidence {
+        Some(evidence) => Ok(PlayFound {
+            texts,
+            form,
+            game,
+            evidence,
+            marks,
+        }),
+        None => play_by_game(rt, alloc, texts, options, watcher),
     }
 }
 
-/// The play by the least measures, where the game is made.
-fn play_without_lasso<U: Watcher, H: Runtime>(
-    rt: &H,
-    alloc: Global,
-    posed: GameToSolve,
-    options: &Options,
-    watcher: &U,
-) -> Result<PlayFound, MuError>
-    requires posed { ArePosed posed }
-    requires rule { posed.priorities ≡ options.now.priorities }
-    requires board { FitsBoard (Some options.now.board) (arc_value posed.game) }
-
-    ensures play { IfOk result (IsPlayFound options.now.priorities options.now.board) }
-    ensures texts { IfOk result (λ found. found.texts.value ≡ posed.texts.value) }
-    ensures refusal { IfErr result (HasNoPlay options.now.priorities options.now.board posed.texts.value.system.system
-        (closed_formula posed.texts.value.formula)) }
-{
-    let found = find_guessed(rt, alloc, posed, options, watcher)?;
-    let evidence = winner_evidence(alloc, &found).map_err(MuError::Evidence)?;
-    Ok(play_in(found, evidence))
-}
-
-/// Evidence of a play that goes one way from each vertex, where one is found by who wins each vertex in a ranking.
-fn ranked_lasso(
+/// Evidence of the winner, where a ranking says who wins each vertex: of a play that goes one way from each vertex, where one is found, and else by the least
+/// measures, where these are.
+fn ranked_evidence(
     alloc: Global,
     posed: &GameToSolve,
     sheet: &Sheet,
 ) -> Result<Option<Evidence>, MuError>
     requires { ArePosed posed.now }
     ensures play { IfOk result (λ found. IfSome found (IsPlay posed.now.texts.value.system.system (normal_nodes posed.now.form) (arc_value posed.now.game))) }
-    ensures refusal { IfErr result (λ e. e ≡ MuError.Memory) }
+    ensures refusal { IfErr result IsUnshown }
 {
     let GameToSolve {
         texts,
@@ -164,8 +145,38 @@ fn ranked_lasso(
         game,
         ..
     } = posed;
-    let even_wins = sheet.even_wins(alloc, texts.system.states())?;
-    Ok(lasso(alloc, &texts.system, form, game, &even_wins)?)
+    let (system, game): (&Lts, &Game) = (&texts.system, game);
+    let even_wins = sheet.even_wins(alloc, system.states())?;
+    match lasso(alloc, system, form, game, &even_wins)? {
+        Some(evidence) => Ok(Some(evidence)),
+        None => Ok(least_evidence(alloc, system, form, game).map_err(MuError::Evidence)?),
+    }
+}
+
+/// Evidence of the winner by the least measures, where these are found.
+fn least_evidence(
+    alloc: Global,
+    system: &Lts,
+    form: &Normal,
+    game: &Game,
+) -> Result<Option<Evidence>, EvidenceError>
+    requires { game.now ≡ arena system.now.system (normal_nodes form.now) }
+    ensures play { IfOk result (λ found. IfSome found (IsPlay system.now.system (normal_nodes form.now) game.now)) }
+    ensures memory { IfErr result (λ e. e ≡ EvidenceError.Memory) }
+{
+    let Some((proposals, moves)) = least_of(alloc, system, form) else {
+        return Ok(None);
+    };
+    form.known();
+    game.known();
+    let least = LeastMeasures {
+        proposals: &proposals,
+        moves: &moves,
+        player: proposals.winner(root_vertex(system, form, game)),
+    };
+    let evidence = least.evidence(alloc, game)?;
+    evidence.known();
+    Ok(has_root(system, form, game, &evidence).then_some(evidence))
 }
 
 /// Evidence of a play that goes one way from each vertex, where one is found by a guess of who wins each vertex.

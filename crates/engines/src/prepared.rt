@@ -17,7 +17,7 @@ use crate::play::lasso;
 use calculus::form::Normal;
 use evidence::error::EvidenceError;
 use evidence::evidence::Evidence;
-use evidence::make::even_evidence;
+use evidence::make::{even_evidence, odd_evidence_from};
 use evidence::pair::EvidencePair;
 use game::graph::Game;
 use laws::chosen_is_admissible;
@@ -28,7 +28,7 @@ use requests::error::MuError;
 use requests::request::{Wanted, WitnessForm};
 use requests::texts::Texts;
 use std::alloc::{AllocError, Global};
-use verdicts::findings::{Findings, odd_evidence_found};
+use verdicts::findings::Findings;
 use verdicts::lifting::SolvedGame;
 use verdicts::pairs::evidence_pair;
 use verdicts::proposing::LeastFound;
@@ -182,20 +182,21 @@ fn even_marks(alloc: Global, game: &Game, settled: &Settled) -> Result<Vec<bool>
 }
 
 /// The evidence of the player who wins the initial state's vertex with the root node.
-pub(crate) fn winner_evidence(alloc: Global, found: &Findings) -> Result<Evidence, EvidenceError>
+fn winner_evidence(alloc: Global, found: &Findings) -> Result<Evidence, EvidenceError>
     requires { AreFindings found.now }
     ensures winning { IfOk result (IsWinning found.now) }
     ensures memory { IfErr result (λ e. e ≡ EvidenceError.Memory) }
 {
     one_wins();
-    let game = &found.solution.game;
+    let SolvedGame { game, settled, .. } = &found.solution;
+    let game: &Game = game;
     game.known();
     if initial_mark(found) {
-        let evidence = even_evidence(alloc, game, &found.solution.settled)?;
+        let evidence = even_evidence(alloc, game, settled)?;
         evidence.known();
         Ok(evidence)
     } else {
-        let evidence = odd_evidence_found(alloc, found)?;
+        let evidence = odd_evidence_from(alloc, game, settled)?;
         evidence.known();
         Ok(evidence)
     }

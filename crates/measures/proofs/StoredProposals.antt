@@ -2,14 +2,13 @@
 use Rattle.measures.proofs.Common.{◌≡◌, ◌≢◌, ℕ, zero, suc, slice_index, get_or_default, ◌<◌, ◌≤◌, List, [], ◌∷◌, length, refl, ap, ap₂}
 use Rattle.measures.proofs.Common.{get_or-map-range_with_len, length-map-range_with_len, ◌∙◌, ◌⊎◌, subst, inl, inr, arith, leb_tells, get_or_past}
 use Rattle.measures.proofs.Common.{AllZip, AllZip-long, Some, Ordering, Less, Equal, nat_cmp, opponent, Player, Even, Odd}
-use Rattle.measures.proofs.Common.{Vertex, Game, count, vertex, components, Measure, Top, Counts, IsMeasure, measure_cmp, value_at, Rows, counts_of}
+use Rattle.measures.proofs.Common.{Vertex, Game, count, vertex, components, Measure, Top, Counts, IsMeasure, measure_cmp, value_at, counts_of}
 use Rattle.measures.specs.Measure.{counted_at, cut, digit_of}
 use Rattle.measures.specs.declared.proposal.PlayerLayout.{PlayerLayout}
 use Rattle.measures.specs.Proposal.{AreEnough, HasAllButOne, HasAsMuch, HasReasonsFor, HeightFalls, IsFirstMoveBy, IsReason, MatchUpTo, Proposal}
 use Rattle.measures.specs.StoredProposal.{AreBoundsIn, height_in, layout_of, shift_in, value_of, values_of}
 use Rattle.measures.specs.declared.proposal.Proposals.{Proposals}
 use Rattle.measures.proofs.Places.{place_contained}
-use Rattle.measures.proofs.Plain.{same_values}
 
 -- ------------------------------------------------------------------ shifts
 
@@ -93,14 +92,3 @@ measure_bounded g (Counts cs) bounds b h = within_bounds (count g) cs bounds (co
 
 pub bounds_wide : (g : Game) (bounds : List ℕ) → AreBoundsIn g bounds → length (components g) ≡ length bounds
 bounds_wide g bounds b = let l = AllZip-long (λ bound p. bound ≤ count g p) bounds (components g) b in omega (arith, l)
-
--- ------------------------------------------------------------------ rows of a table
-
--- the values of the first vertices are those of the table
-pub record IsFilled (values : List Measure) (w v : ℕ) (r : Rows) : Type 0 where
-  pub width : r.width ≡ w
-  pub long : length r.values ≡ length values
-  pub done : (u : ℕ) → u < v → value_at r.values u ≡ value_at values u
-
-pub filled_whole : (values : List Measure) (width v : ℕ) (r : Rows) → IsFilled values width v r → length values ≤ v → r.values ≡ values
-filled_whole values width v r is l = same_values (length values) r.values values is.long refl (λ u h. is.done u (omega arith))

@@ -7,7 +7,6 @@ ghost use Rattle.game.specs.Wins.{Wins};
 ghost use Rattle.measures.specs.Laws.{IsBestSuccessor};
 ghost use Rattle.measures.specs.Measure.{Counts, IsProg, Top};
 ghost use Rattle.measures.specs.Progress.{IsLeastTable, IsProgress, LiesUnder, greater_of, opening as opening_of, value_at};
-ghost use Rattle.measures.specs.StoredProposal.{values_of};
 ghost use Rattle.measures.specs.Settling.{IsStill, LiftsAt};
 ghost use Rattle.measures.specs.Tables.{IsOpening, IsPlain, IsSettled, IsStoredSettled, LiesBelow};
 
@@ -15,7 +14,6 @@ use crate::bounds::{bounds, width};
 use crate::measure::Measure;
 use crate::pending::PendingVertices;
 use crate::progs::prog_of;
-use crate::proposal::Proposals;
 use crate::rows::MeasureRows;
 use arrayvec::ArrayVec;
 use game::graph::Game;
@@ -238,29 +236,6 @@ impl Settled {
         ensures { result ≡ record { game = of.value; values = rows.values } }
     {
         Settled { values: rows, of }
-    }
-
-    /// The least progress table that is proposed for a player, in the player's game.
-    ///
-    /// # Errors
-    /// Out of memory, and nothing else.
-    pub fn of_proposals(
-        alloc: Global,
-        game: &Game,
-        proposals: &Proposals,
-        player: Player,
-    ) -> Result<Self, Memory>
-        requires { IsLeastTable game.now (values_of player proposals.now) }
-        ensures game { IfOk result (λ s. s.game ≡ game.now) }
-        ensures values { IfOk result (λ s. s.values ≡ values_of player proposals.now) }
-    {
-        game.known();
-        let vertices = game.vertices();
-        let mut rows = MeasureRows::zeros(alloc, vertices as usize, width(game))?;
-        for v in 0..vertices {
-            rows.set(v as usize, &proposals.value(player, v as usize));
-        }
-        Ok(Settled::of_rows(rows, Snapshot::of(game)))
     }
 
     /// Whether the measure of a vertex is top.

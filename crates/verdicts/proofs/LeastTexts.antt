@@ -10,9 +10,7 @@ use Rattle.game.specs.Game.{Game, Vertex, vertex}
 use Rattle.measures.specs.Laws.{IsBestMove}
 use Rattle.measures.specs.Measure.{Counts, Measure, Top}
 use Rattle.measures.specs.Progress.{IsLeastTable, value_at}
-use Rattle.measures.specs.StoredProposal.{counts_in, game_for, height_in, layout_of, move_said, value_if, values_of, winner_at}
-use Rattle.measures.specs.declared.field.CountField.{CountField}
-use Rattle.measures.proofs.StoredProposals.{value_there, values_long}
+use Rattle.measures.specs.StoredProposal.{game_for, move_said, values_of}
 use Rattle.laws.proofs.LeastExists.{least_unique}
 use Rattle.evidence.specs.Best.{IsBestOf, IsEvenOf}
 use Rattle.evidence.specs.Canon.{entry_line, entry_line_at, entry_line_of, entry_lines, evidence_text, header}
@@ -21,6 +19,7 @@ use Rattle.evidence.proofs.BestMade.{move_one}
 use Rattle.evidence.proofs.Written.{all_lines}
 use Rattle.verdicts.specs.declared.evidence_text.LeastMeasures.{LeastMeasures}
 use Rattle.verdicts.specs.EvidenceText.{AreLeastMeasures, entry_by, measured_line}
+use Rattle.verdicts.proofs.LeastEvidence.{long, move_there, wins_there}
 
 -- read for Even, in the player's game
 even_of : (p : Player) (g : Game) (e : Evidence) → IsBestOf p g e → IsEvenOf (game_for p g) (record { player = Even; entries = e.entries })
@@ -57,61 +56,36 @@ lines_same f h a (suc n) each =
     let rest = lines_same f h (a + 1) n (λ v low high. each v (omega (arith, low)) (omega (arith, high))) in
     λ i. first i ++ rest i
 
-module _ (m : LeastMeasures) (g : Game) (least : AreLeastMeasures m g) (e : Evidence) (is : IsBestOf m.player g e) where
-  long : m.proposals.now.vertices ≡ length (game_for m.player g).vertices
-  long = sym (values_long m.player m.proposals.now) ∙ least.least.progress.0.0
-
+module _ (m : LeastMeasures) (g : Game) (least : AreLeastMeasures m g) (e : Evidence) (is_best : IsBestOf m.player g e) where
   module _ (v : ℕ) (inside : v < length m.moves.now) where
     there : v < m.proposals.now.vertices
     there = let c = least.moves.count in omega (arith, inside, c)
 
-    abbrev number : ℕ
-    number = height_in m.proposals.now 0 v
-
-    abbrev fields : List CountField
-    fields = (layout_of m.player m.proposals.now).fields.items
-
-    value_is : value_at (values_of m.player m.proposals.now) v ≡ value_if m.player (winner_at m.proposals.now v) fields number
-    value_is = value_there m.player m.proposals.now v there
-
-    abbrev Line : Measure → Type 0
-    Line value = entry_line_of v (entry_by value (move_said (slice_index_or m.moves.now v 0))) ≡ entry_line_at e.entries v
-
-    top : value_at (values_of m.player m.proposals.now) v ≡ Top → [] ≡ entry_line_at e.entries v
-    top t = sym (line_top (game_for m.player g) (values_of m.player m.proposals.now) least.least e.entries (even_of m.player g e is) v t)
-
     here : (x : Vertex) × (vertex (game_for m.player g) v ≡ Some x)
     here = elim ((slice_get_cases (game_for m.player g).vertices v).1) [
       | inl w ↦ (w.0, w.2)
-      | inr w ↦ (let past = w.0 in let l = long in let t = there in absurd (omega (arith, past, l, t)))
+      | inr w ↦ (let past = w.0 in let l = long m g least in let t = there in absurd (omega (arith, past, l, t)))
     ]
 
-    counts : (c : List ℕ) → value_at (values_of m.player m.proposals.now) v ≡ Counts c → winner_at m.proposals.now v ≡ m.player → Line (Counts c)
-    counts c value wins =
+    line_by : (value : Measure) → value_at (values_of m.player m.proposals.now) v ≡ value
+        → entry_line_of v (entry_by value (move_said (slice_index_or m.moves.now v 0))) ≡ entry_line_at e.entries v
+    line_by Top is = sym (line_top (game_for m.player g) (values_of m.player m.proposals.now) least.least e.entries (even_of m.player g e is_best) v is)
+    line_by (Counts c) is =
         let x = here in
-        let best = subst (λ p. vertex (game_for p g) v ≡ Some x.0 → IsBestMove (game_for p g) (values_of p m.proposals.now) x.0
-        (move_said (slice_index_or m.moves.now v 0))) wins (least.moves.best v x.0) x.1 in
-        sym (line_counts (game_for m.player g) (values_of m.player m.proposals.now) least.least e.entries (even_of m.player g e is) v c value x.0 x.1
-        (move_said (slice_index_or m.moves.now v 0)) best)
-
-    by : (p q : Player) → m.player ≡ p → winner_at m.proposals.now v ≡ q
-        → value_at (values_of m.player m.proposals.now) v ≡ value_if p q fields number → Line (value_if p q fields number)
-    by Even Even own wins value = counts (counts_in fields number) value (wins ∙ sym own)
-    by Odd Odd own wins value = counts (counts_in fields number) value (wins ∙ sym own)
-    by Even Odd own wins value = top value
-    by Odd Even own wins value = top value
+        sym (line_counts (game_for m.player g) (values_of m.player m.proposals.now) least.least e.entries (even_of m.player g e is_best) v c is x.0 x.1
+        (move_said (slice_index_or m.moves.now v 0)) (move_there m g least v there (wins_there m g least v there c is) x.0 x.1))
 
     line_is : measured_line m v ≡ entry_line_at e.entries v
-    line_is = subst Line (sym value_is) (by m.player (winner_at m.proposals.now v) refl refl value_is)
+    line_is = line_by (value_at (values_of m.player m.proposals.now) v) refl
 
   -- the whole text
   pub text_is : (header m.player ++ line_end) ++ lines_from (measured_line m) 0 (length m.moves.now) ≡ evidence_text e
   text_is =
-      let count : length m.moves.now ≡ length e.entries = let c = least.moves.count in let l = long in let k = (even_of m.player g e is).long in
+      let count : length m.moves.now ≡ length e.entries = let c = least.moves.count in let l = long m g least in let k = (even_of m.player g e is_best).long in
       omega (arith, c, l, k) in
       let lines : lines_from (measured_line m) 0 (length m.moves.now) ≡ entry_lines 0 e.entries =
       lines_same (measured_line m) (entry_line_at e.entries) 0 (length m.moves.now) (λ v low high. line_is v (omega (arith, high)))
       ∙ (ap (lines_from (entry_line_at e.entries) 0) count ∙ all_lines e.entries) in
-      let player : m.player ≡ e.player = sym (player_of m.player g e is) in
+      let player : m.player ≡ e.player = sym (player_of m.player g e is_best) in
       append_assoc (header m.player) line_end (lines_from (measured_line m) 0 (length m.moves.now))
       ∙ (λ i. header (player i) ++ (line_end ++ lines i))

@@ -3,4 +3,5 @@ pub mod Limits
 mod Ranking
 pub mod Roots
 mod Leasts
+mod LeastEvidence
 mod LeastTexts

@@ -1,5 +1,5 @@
 -- What a check by a game finds out.
-use Rattle.std.specs.Prelude.{◌≡◌, ℕ, ◌↔◌, IfSome, IsTrue, List, Some, length}
+use Rattle.std.specs.Prelude.{◌≡◌, ℕ, ◌↔◌, IsTrue, List, Some, length}
 use Rattle.std.specs.Arc.{arc_value}
 use Rattle.systems.specs.System.{System}
 use Rattle.calculus.specs.Tree.{Formula}
@@ -82,11 +82,10 @@ formula_found x = closed_formula x.texts.value.formula
 abbrev pub way_in : Findings → Way
 way_in x = ByGame x.solution.priorities x.solution.board
 
--- The game is solved, the marks are found, and measures that are kept are least.
+-- The game is solved, and the marks are found.
 pub record AreFindings (x : Findings) : Type 0 where
   pub solution : IsSolvedGame (system_of x) (formula_found x) x.solution
   pub marks : AreMarks (way_in x) (system_of x) (formula_found x) x.marks.items
-  pub least : IfSome x.least (AreLeastOf (system_of x) (nodes_with x.solution.priorities (formula_found x)))
 
 -- evidence of all that each player wins
 pub record IsPairOf (g : Game) (pair : EvidencePair) : Type 0 where

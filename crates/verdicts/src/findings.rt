@@ -1,34 +1,24 @@
 // What a check by a game finds out before it writes.
 
-ghost use Rattle.std.specs.Prelude.{◌≡◌, ◌↔◌, IfOk, IfErr, IfSome, IsTrue, ℕ, List, Some, None, Option};
+ghost use Rattle.std.specs.Prelude.{◌≡◌, IfOk, IfErr, ℕ, List, Some, None, Option};
 ghost use Rattle.std.specs.Arc.{arc_value};
 ghost use Rattle.calculus.specs.Closed.{closed_formula};
 ghost use Rattle.calculus.specs.Normal.{normal_nodes};
 ghost use Rattle.calculus.specs.Rules.{nodes_with};
-ghost use Rattle.game.specs.Wins.{OddWins};
-ghost use Rattle.evidence.specs.Best.{IsOddOf};
-ghost use Rattle.evidence.specs.Evidence.{IsGood, has};
 ghost use Rattle.workers.specs.declared.team.BoardKind.{BoardKind};
 ghost use Rattle.requests.specs.Causes.{HaveCauses};
 ghost use Rattle.requests.specs.Check.{ByGame, AreSpelled, HasForm, RefusesCheck, IsBeyond};
-ghost use Rattle.verdicts.specs.Findings.{AreFindings, AreLeastOf, ArePosed, formula_found, system_of, way_in};
+ghost use Rattle.verdicts.specs.Findings.{AreFindings, ArePosed, formula_found, system_of, way_in};
 ghost use Rattle.requests.specs.Solver.{FitsBoard, IsUnsolved};
 ghost use Rattle.requests.specs.Writers.{AreKept, Lent};
 
 use crate::lifting::{SolvedGame, Winners, state_marks};
-use crate::proposing::least_of;
 use calculus::form::Normal;
 use calculus::priorities::Priorities;
 use evidence::decide::certified_winners;
-use evidence::error::EvidenceError;
-use evidence::evidence::Evidence;
-use evidence::make::{odd_evidence_from, odd_evidence_of};
 use game::build::build_seen;
-use game::dual::dual;
 use game::graph::Game;
 use game::observer::{Observer, Silent, Stage};
-use game::player::Player;
-use measures::proposal::Proposals;
 use measures::settle::solve_one;
 use measures::table::Settled;
 use normal::make::normal_with;
@@ -53,8 +43,6 @@ pub struct Findings {
     pub texts: Box<Texts>,
     pub solution: SolvedGame,
     pub marks: Vec<bool>,
-    /// The least measures of both players, if a guess of them was found good.
-    pub least: Option<Proposals>,
 }
 
 /// Both texts, the formula's normal form, and their game, which is to be solved.
@@ -234,7 +222,7 @@ fn find_by_one(alloc: Global, posed: GameToSolve) -> Result<Findings, MuError>
     ensures refusal { IfErr result (λ e. e ≡ MuError.Memory) }
 {
     let settled = solve_one(alloc, &posed.game)?;
-    find_solved(alloc, posed, None, settled, None)
+    find_solved(alloc, posed, None, settled)
 }
 
 /// What is found out of these texts by workers, who lift from the opening table on.
@@ -254,55 +242,7 @@ fn find_by_workers<T: Gate, H: Runtime>(
     ensures refusal { IfErr result (IsUnsolved (Some options.now.board) (arc_value posed.game)) }
 {
     let settled = solve_seen(rt, alloc, &posed.game, options, gate, &Silent, None)?;
-    find_solved(alloc, posed, Some(options.board), settled, None)
-}
-
-/// What is found out of these texts, where the least measures of both players are found already.
-fn find_least(
-    alloc: Global,
-    posed: GameToSolve,
-    options: &Options,
-    least: Proposals,
-) -> Result<Findings, MuError>
-    requires posed { ArePosed posed }
-    requires least { AreLeastOf posed.texts.value.system.system (nodes_with posed.priorities (closed_formula posed.texts.value.formula)) least }
-    requires board { FitsBoard (Some options.now.board) (arc_value posed.game) }
-
-    ensures found { IfOk result AreFindings }
-    ensures way { IfOk result (λ found. way_in found ≡ ByGame posed.priorities (Some options.now.board)) }
-    ensures texts { IfOk result (λ found. found.texts.value ≡ posed.texts.value) }
-
-    ensures refusal { IfErr result (λ e. e ≡ MuError.Memory) }
-{
-    let settled = Settled::of_proposals(alloc, &posed.game, &least, Player::Even)?;
-    find_solved(alloc, posed, Some(options.board), settled, Some(least))
-}
-
-/// What is found out of these texts by the least measures of both players, where a guess of them is found good, and else over the board that the options ask
-/// for.
-///
-/// # Errors
-/// Those of the workers' table; U4.
-pub fn find_guessed<O: Observer + Sync, H: Runtime>(
-    rt: &H,
-    alloc: Global,
-    posed: GameToSolve,
-    options: &Options,
-    observer: &O,
-) -> Result<Findings, MuError>
-    requires posed { ArePosed posed }
-    requires board { FitsBoard (Some options.now.board) (arc_value posed.game) }
-
-    ensures found { IfOk result AreFindings }
-    ensures way { IfOk result (λ found. way_in found ≡ ByGame posed.priorities (Some options.now.board)) }
-    ensures texts { IfOk result (λ found. found.texts.value ≡ posed.texts.value) }
-
-    ensures refusal { IfErr result (IsUnsolved (Some options.now.board) (arc_value posed.game)) }
-{
-    match least_of(alloc, &posed.texts.system, &posed.form) {
-        Some((least, _)) => find_least(alloc, posed, options, least),
-        None => find_posed(rt, alloc, posed, options, observer),
-    }
+    find_solved(alloc, posed, Some(options.board), settled)
 }
 
 /// What is found out of these texts, over the board that the options ask for.
@@ -322,7 +262,7 @@ fn find_posed<O: Observer + Sync, H: Runtime>(
     ensures refusal { IfErr result (IsUnsolved (Some options.now.board) (arc_value posed.game)) }
 {
     let settled = settle_posed(rt, alloc, &posed, options, observer)?;
-    find_solved(alloc, posed, Some(options.board), settled, None)
+    find_solved(alloc, posed, Some(options.board), settled)
 }
 
 /// The least progress table. Over a board that is named workers lift it from the opening table on, and else from a table that has top where certified evidence
@@ -352,11 +292,8 @@ fn find_solved(
     posed: GameToSolve,
     board: Option<BoardKind>,
     settled: Settled,
-    least: Option<Proposals>,
 ) -> Result<Findings, MuError>
     requires posed { ArePosed posed }
-    requires least { IfSome least (AreLeastOf posed.texts.value.system.system
-        (nodes_with posed.priorities (closed_formula posed.texts.value.formula))) }
     requires board { FitsBoard board (arc_value posed.game) }
     requires settled { settled.game ≡ arc_value posed.game }
 
@@ -386,31 +323,5 @@ fn find_solved(
             settled,
         },
         marks,
-        least,
     })
-}
-
-/// The evidence of all that Odd wins: by the least measures that were guessed, where these are good, and else by lifting the dual game.
-///
-/// # Errors
-/// E5.
-pub fn odd_evidence_found(alloc: Global, found: &Findings) -> Result<Evidence, EvidenceError>
-    requires { AreFindings found.now }
-
-    ensures game { IfOk result (λ e. e.game ≡ arc_value found.now.solution.game) }
-
-    ensures memory { IfErr result (λ e. e ≡ EvidenceError.Memory) }
-    ensures odd { IfOk result (λ e. IsOddOf (arc_value found.now.solution.game) e.evidence) }
-    ensures good { IfOk result (λ e. IsGood (arc_value found.now.solution.game) e.evidence) }
-    ensures exact { IfOk result (λ e. (v : ℕ) → IsTrue (has e.evidence v) ↔ OddWins (arc_value found.now.solution.game) v) }
-{
-    let SolvedGame { game, settled, .. } = &found.solution;
-    let Some(least) = &found.least else {
-        return odd_evidence_from(alloc, game, settled);
-    };
-    let Ok(turned) = dual(alloc, game) else {
-        return Err(EvidenceError::Memory);
-    };
-    let other = Settled::of_proposals(alloc, &turned, least, Player::Odd)?;
-    odd_evidence_of(alloc, game, &turned, &other)
 }

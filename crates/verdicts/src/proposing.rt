@@ -78,7 +78,7 @@ pub struct LeastFound {
 }
 
 /// The least measures of both players, as they are guessed and found good, and for each vertex the move of the one who wins it.
-pub(crate) fn least_of(alloc: Global, system: &Lts, form: &Normal) -> Option<(Proposals, Vec<u32>)>
+pub fn least_of(alloc: Global, system: &Lts, form: &Normal) -> Option<(Proposals, Vec<u32>)>
     ensures few { IfSome result (λ _. 2 + system.now.system.states * length (normal_nodes form.now) ≤ MOST_VERTICES) }
     ensures least { IfSome result (λ found. AreLeastOf system.now.system (normal_nodes form.now) found.0) }
     ensures moves { IfSome result (λ found. AreWinnersMoves found.0 (arena system.now.system (normal_nodes form.now)) found.1.items) }
