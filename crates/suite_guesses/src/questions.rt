@@ -2,13 +2,13 @@
 
 ghost use Rattle.std.specs.Prelude.{◌<◌, ◌≤◌};
 
-use crate::common;
-use crate::common::push_text;
 use calculus::closed::Closed;
 use calculus::form::Normal;
 use lts::Lts;
+use normal::make::normal;
 use samples::dice::Dice;
 use samples::host::Host;
+use samples::texts::{parsed_formula, system_read};
 use std::process::Abort;
 
 // The labels of the systems: formulas name the first two.
@@ -16,9 +16,6 @@ static LABELS: [&str; 3] = ["a", "b", "c"];
 
 // Variables by the depth of their binders. Leaves have those of the first four.
 static NAMES: [&str; 6] = ["W", "X", "Y", "Z", "S", "T"];
-
-// How many operands a body has beside the variables of all binders.
-const MORE: u32 = 2;
 
 // Closed operands, which are solved before what is around them.
 static CLOSED: [&str; 6] = [
@@ -33,10 +30,11 @@ static CLOSED: [&str; 6] = [
 // Actions, each with a parenthesis that it opens.
 static HEADS: [&str; 5] = ["[a](", "<true>(", "[!a](", "<b>(", "[a|b]("];
 
-// The steps from each state: to any, some to the same. The answer is how many there are.
-fn roll_rows(rt: &impl Abort, dice: &mut Dice, rows: &mut String, states: u32) -> u32
+// A system with so many states: some have no steps, some several to the same state, some one to themselves.
+fn roll_system(rt: &impl Host, dice: &mut Dice, states: u32) -> Lts
     requires { 0 < states }
 {
+    let mut rows = String::new(rt.alloc());
     let mut count = 0_u32;
     for source in 0..states {
         for _ in 0..dice.roll(4) {
@@ -45,31 +43,36 @@ fn roll_rows(rt: &impl Abort, dice: &mut Dice, rows: &mut String, states: u32) -
             count = count.saturating_add(1);
         }
     }
-    count
+    let text = format!(in rt.alloc(); "des (0,{count},{states})\n{rows}").expect(rt, "memory");
+    system_read(rt.alloc(), &text).expect(rt, "a system")
 }
 
-// A system with so many states: some have no steps, some several to the same state, some one to themselves.
-fn roll_system(rt: &impl Host, dice: &mut Dice, states: u32) -> Lts
-    requires { 0 < states }
+// A text gets this at its end.
+fn push_text(rt: &impl Abort, text: &mut String, part: &str) {
+    text.push_str(part).expect(rt, "memory");
+}
+
+// A variable in parentheses, behind an action unless it is bare.
+fn push_variable(rt: &impl Abort, dice: &mut Dice, text: &mut String, is_bare: bool, variable: u32)
+    requires { variable < 6 }
 {
-    let mut rows = String::new(rt.alloc());
-    let count = roll_rows(rt, dice, &mut rows, states);
-    let text = format!(in rt.alloc(); "des (0,{count},{states})\n{rows}").expect(rt, "memory");
-    common::system(rt, &text)
+    let head = if is_bare {
+        "("
+    } else {
+        HEADS[dice.roll(5) as usize]
+    };
+    let name = NAMES[variable as usize];
+    write!(text, "{head}{name})").expect(rt, "memory");
 }
 
 // A variable in scope, where there is one, or else something closed.
 fn roll_leaf(rt: &impl Abort, dice: &mut Dice, text: &mut String, binders: u32) {
-    let is_closed = dice.roll(4) == 0;
-    let variable = dice.roll(4);
+    let (is_closed, variable) = (dice.roll(4) == 0, dice.roll(4));
     if is_closed || variable >= binders {
         push_text(rt, text, CLOSED[dice.roll(6) as usize]);
-    } else if dice.roll(2) == 0 {
-        push_text(rt, text, HEADS[dice.roll(5) as usize]);
-        push_text(rt, text, NAMES[variable as usize]);
-        push_text(rt, text, ")");
     } else {
-        push_text(rt, text, NAMES[variable as usize]);
+        let is_bare = dice.roll(2) != 0;
+        push_variable(rt, dice, text, is_bare, variable);
     }
 }
 
@@ -77,9 +80,8 @@ fn roll_leaf(rt: &impl Abort, dice: &mut Dice, text: &mut String, binders: u32) 
 fn push_binder(rt: &impl Abort, text: &mut String, is_least: bool, binders: u32)
     requires { binders < 6 }
 {
-    push_text(rt, text, if is_least { "mu " } else { "nu " });
-    push_text(rt, text, NAMES[binders as usize]);
-    push_text(rt, text, ". (");
+    let (binder, name) = (if is_least { "mu" } else { "nu" }, NAMES[binders as usize]);
+    write!(text, "{binder} {name}. (").expect(rt, "memory");
 }
 
 // What stands between an operand in parentheses and the next.
@@ -125,22 +127,8 @@ fn roll_any(rt: &impl Abort, dice: &mut Dice, text: &mut String) -> u32 {
     parentheses
 }
 
-// A variable, mostly behind an action, and the junction after it.
-fn roll_variable(rt: &impl Abort, dice: &mut Dice, text: &mut String, variable: u32)
-    requires { variable < 6 }
-{
-    push_text(rt, text, "((");
-    if dice.roll(4) == 0 {
-        push_text(rt, text, "(");
-    } else {
-        push_text(rt, text, HEADS[dice.roll(5) as usize]);
-    }
-    push_text(rt, text, NAMES[variable as usize]);
-    push_text(rt, text, ")");
-    roll_junction(rt, dice, text);
-}
-
-// So many binders that alternate, around the variables of all of them and some operands. The answer is how many parentheses are open.
+// So many binders that alternate, around the variables of all of them, mostly behind actions, and two more operands. The answer is how many parentheses
+// are open.
 fn roll_nested(rt: &impl Abort, dice: &mut Dice, text: &mut String, binders: u32) -> u32
     requires { binders ≤ 6 }
 {
@@ -149,13 +137,15 @@ fn roll_nested(rt: &impl Abort, dice: &mut Dice, text: &mut String, binders: u32
         push_binder(rt, text, (first + binder) % 2 == 0, binder);
     }
     for binder in 0..binders {
-        roll_variable(rt, dice, text, binder);
+        push_text(rt, text, "((");
+        let is_bare = dice.roll(4) == 0;
+        push_variable(rt, dice, text, is_bare, binder);
+        roll_junction(rt, dice, text);
     }
-    for _ in 0..MORE {
-        roll_operand(rt, dice, text, binders);
-    }
+    roll_operand(rt, dice, text, binders);
+    roll_operand(rt, dice, text, binders);
     roll_leaf(rt, dice, text, binders);
-    binders + 2 * (binders + MORE)
+    3 * binders + 4
 }
 
 // A formula: so many binders that alternate or one more, or any formula where none is asked for.
@@ -172,7 +162,7 @@ fn roll_formula(rt: &impl Host, dice: &mut Dice, least: u32) -> Closed
     for _ in 0..parentheses {
         push_text(rt, &mut text, ")");
     }
-    common::formula(rt, &text)
+    parsed_formula(rt.alloc(), &text).expect(rt, "a formula")
 }
 
 /// A system, and a formula with its normal form.
@@ -190,6 +180,6 @@ pub(crate) fn roll_question(rt: &impl Host, dice: &mut Dice, least: u32) -> Ques
     let states = 1 + dice.roll(12);
     let lts = roll_system(rt, dice, states);
     let formula = roll_formula(rt, dice, least);
-    let form = common::normal_form(rt, &formula);
+    let form = normal(rt.alloc(), &formula).expect(rt, "a normal form");
     Question { lts, formula, form }
 }
