@@ -51,10 +51,8 @@ impl Write for Counting {
 // So many lines of so many bytes take so many writes.
 fn take(rt: &impl Host, count: usize, length: usize, writes: usize) {
     let line = vec![in rt.alloc(); b'x'; length].expect(rt, "memory");
-    let lines = Alike {
-        count,
-        line: line.as_slice(),
-    };
+    let line = line.as_slice();
+    let lines = Alike { count, line };
     let mut out = Counting {
         bytes: 0,
         writes: 0,

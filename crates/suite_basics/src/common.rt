@@ -20,8 +20,11 @@ use normal::make::normal;
 use samples::games::{GameRow, game_of_rows};
 use samples::holds;
 use samples::host::Host;
-use samples::texts::{parsed_formula, repeated_text, system_read};
+use samples::readers::SlowReader;
+use samples::texts::{RING, parsed_formula, system_read};
 use samples::writers::{AMPLE, AtEnd, Narrow};
+use std::alloc::{AllocError, Global};
+use std::io::Read;
 use std::process::Abort;
 
 /// What a reader may give at a time: a byte, less than a line, and as much as a block has.
@@ -60,14 +63,22 @@ pub(crate) fn is_written<W: Written>(rt: &impl Host, what: &W, text: &str) {
     }
 }
 
-/// What is told is one of two texts.
-pub(crate) fn is_either(rt: &impl Abort, told: &str, first: &str, second: &str) {
-    holds!(rt; told == first || told == second, told);
+/// What is told, where memory suffices for it, is one of two texts.
+pub(crate) fn is_either(rt: &impl Abort, told: Option<String>, first: &str, second: &str) {
+    if let Some(told) = told {
+        let told = told.as_str();
+        holds!(rt; told == first || told == second, told);
+    }
 }
 
-/// The game of the texts of a system and a formula.
-pub(crate) fn game_of(rt: &impl Host, system: &str, formula: &str) -> Game {
-    let lts = self::system(rt, system);
+/// What is told is this.
+pub(crate) fn is_told(rt: &impl Abort, told: Result<String, AllocError>, wanted: &str) {
+    assert_eq!(rt; told.expect(rt, "memory").as_str(), wanted);
+}
+
+/// The game of a formula's text on the ring of two states.
+pub(crate) fn ring_game(rt: &impl Host, formula: &str) -> Game {
+    let lts = system(rt, RING);
     let form = form(rt, formula);
     let game = game(rt, &lts, &form);
     drop(form);
@@ -102,9 +113,25 @@ pub(crate) fn require(rt: &impl Abort, is_so: bool, text: &str)
     assert!(rt; is_so, "{text}");
 }
 
-/// Of a text what was found is what was wanted.
-pub(crate) fn same(rt: &impl Abort, text: &str, found: &str, wanted: &str) {
-    assert_eq!(rt; found, wanted, "{text}");
+/// A format of texts: what is shown of what a reader gives, or the refusal.
+pub(crate) trait Format {
+    fn shown<R: Read + Drop>(&self, alloc: Global, reader: R) -> Result<String, AllocError>;
+}
+
+/// This is shown of a text, in whatever pieces it comes.
+pub(crate) fn is_read<F: Format>(rt: &impl Host, format: &F, text: &str, wanted: &str) {
+    for step in &STEPS {
+        let reader = SlowReader::whole(text.as_bytes(), *step);
+        is_told(rt, format.shown(rt.alloc(), reader), wanted);
+    }
+}
+
+/// A text that is good as far as it goes is refused for the failed read, wherever that comes.
+pub(crate) fn is_cut<F: Format>(rt: &impl Host, format: &F, text: &str, step: usize, told: &str) {
+    for given in 0..=text.len() {
+        let reader = SlowReader::failing(text.as_bytes(), step, given);
+        is_told(rt, format.shown(rt.alloc(), reader), told);
+    }
 }
 
 /// The system of a text.
@@ -136,9 +163,4 @@ pub(crate) fn game(rt: &impl Host, system: &Lts, form: &Normal) -> Game
 /// The game of these rows.
 pub(crate) fn game_by_hand(rt: &impl Host, rows: &[GameRow]) -> Game {
     game_of_rows(rt, rows).expect(rt, "a game")
-}
-
-/// A beginning, a part that stands so often, and an end.
-pub(crate) fn repeated(rt: &impl Host, head: &str, part: &str, times: usize, tail: &str) -> String {
-    repeated_text(rt.alloc(), head, part, times, tail).expect(rt, "memory")
 }

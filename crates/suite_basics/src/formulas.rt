@@ -20,18 +20,14 @@ impl Written for Closed {
     }
 }
 
-fn prints(rt: &impl Host, text: &str, wanted: &str) {
-    let formula = formula(rt, text);
-    is_written(rt, &formula, wanted);
-    drop(formula);
-}
-
 #[test]
 fn a_text_is_printed_as_far_as_there_is_room(rt: HostRuntime) {
-    let text = "<b|a|b . (true || !tau)* + \"x % y\">!!true";
     let wanted = "<((a|b|b . (true || !tau)*) + \"x % y\")>!!true";
-    prints(&rt, text, wanted);
-    prints(&rt, wanted, wanted);
+    for text in ["<b|a|b . (true || !tau)* + \"x % y\">!!true", wanted] {
+        let formula = formula(&rt, text);
+        is_written(&rt, &formula, wanted);
+        drop(formula);
+    }
 }
 
 // The refusal of a text as it is shown, or `ok`.
@@ -46,26 +42,16 @@ fn refusal(alloc: Global, text: &str) -> Result<String, AllocError> {
 #[test]
 fn out_of_memory_is_told_as_such(rt: HostRuntime) {
     let text = "nu X. [(a|b + \"c\")*](mu Y. (<a>X || <b . c>!!Y))";
-    if let Ok(told) = refusal(rt.alloc(), text) {
-        is_either(&rt, told.as_str(), "ok", "F9");
-        drop(told);
-    }
-}
-
-fn meant(rt: &impl Host, formula: &Closed) -> Vec<bool> {
-    let system = system(rt, RING);
-    let marks = plain_states(rt.alloc(), &system, formula).expect(rt, "memory");
-    drop(system);
-    marks
+    is_either(&rt, refusal(rt.alloc(), text).ok(), "ok", "F9");
 }
 
 #[test]
 fn a_formula_holds_where_it_is_to(rt: HostRuntime) {
-    let formula = formula(&rt, "<a=>b>true");
-    let marks = meant(&rt, &formula);
+    let (system, formula) = (system(&rt, RING), formula(&rt, "<a=>b>true"));
+    let marks = plain_states(rt.alloc(), &system, &formula).expect(&rt, "memory");
     drop(formula);
+    drop(system);
     holds!(&rt; marks.as_slice() == [false, true].as_slice());
-    drop(marks);
 }
 
 fn label_of(rt: &impl Host, text: &str) -> Label {
@@ -97,21 +83,16 @@ fn labels_are_read_as_names(rt: HostRuntime) {
     is_read_as(&rt, "r(1)", None);
 }
 
-// Whether the action formula in the formula's modality says that of the label.
-fn says_of(formula: &Closed, label: &Label, says: bool) -> bool {
-    match formula.tree() {
+// Whether the action formula in the formula's modality says that of the label `b|a`.
+fn is_said(rt: &impl Host, text: &str, says: bool) {
+    let (label, formula) = (label_of(rt, "b|a"), formula(rt, text));
+    let is_so = match formula.tree() {
         State::Dia(Reg::Act(action), _) => holds(action, &label.view()) == says,
         _ => false,
-    }
-}
-
-// Of the label `b|a`.
-fn is_said(rt: &impl Host, text: &str, says: bool) {
-    let label = label_of(rt, "b|a");
-    let formula = formula(rt, text);
-    holds!(rt; says_of(&formula, &label, says), text);
+    };
     drop(formula);
     drop(label);
+    holds!(rt; is_so, text);
 }
 
 #[test]

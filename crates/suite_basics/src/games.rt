@@ -4,15 +4,14 @@ ghost use Rattle.std.specs.Prelude.{◌≡◌, ◌<◌, ◌≤◌};
 ghost use Rattle.calculus.specs.Normal.{normal_nodes};
 ghost use Rattle.game.specs.Arena.{arena};
 
-use crate::common;
-use crate::common::{form, game, is_either, is_written};
+use crate::common::{form, game, is_either, is_written, system};
+use crate::game_texts::text_of;
 use calculus::form::Normal;
 use game::build::build_split;
 use game::error::BuildError;
 use game::graph::Game;
 use game::player::Player;
 use lts::Lts;
-use pgsolver::write_game;
 use samples::games::{GameRow, made};
 use samples::holds;
 use samples::host::Host;
@@ -21,22 +20,10 @@ use samples::texts::{RING, form_of, system_read};
 use std::alloc::{AllocError, Global};
 use std::process::Abort;
 
-fn shown(alloc: Global, game: &Game) -> Result<String, AllocError> {
-    let mut text = Vec::new(alloc);
-    if write_game(game, &mut text).is_err() {
-        return Err(AllocError);
-    }
-    String::from_utf8(text).map_err(|_| AllocError)
-}
-
 // The game, or the refusal.
-fn text_of(alloc: Global, game: Result<Game, BuildError>) -> Result<String, AllocError> {
+fn shown(alloc: Global, game: Result<Game, BuildError>) -> Result<String, AllocError> {
     match game {
-        Ok(game) => {
-            let shown = shown(alloc, &game);
-            drop(game);
-            shown
-        }
+        Ok(game) => text_of(alloc, &game),
         Err(error) => error.to_string(alloc),
     }
 }
@@ -48,17 +35,14 @@ fn split(rt: &impl Host, ranges: u32) -> Option<String>
     let lts = system_read(rt.alloc(), RING).ok()?;
     let form = form_of(rt.alloc(), "<a>true")?;
     let game = build_split(rt, rt.alloc(), &lts, &form, ranges, None);
-    text_of(rt.alloc(), game).ok()
+    shown(rt.alloc(), game).ok()
 }
 
 // Each growth may be refused: then nothing but that is told. tests/refusals refuses each in turn.
 #[test]
 fn out_of_memory_for_any_split_is_told_as_such(rt: HostRuntime) {
     for ranges in 1..3 {
-        if let Some(told) = split(&rt, ranges) {
-            is_either(&rt, told.as_str(), STEP, "B2");
-            drop(told);
-        }
+        is_either(&rt, split(&rt, ranges), STEP, "B2");
     }
 }
 
@@ -74,8 +58,7 @@ fn has_vertices(rt: &impl Abort, lts: &Lts, form: &Normal, game: &Game)
 
 #[test]
 fn vertices_are_known_by_their_names(rt: HostRuntime) {
-    let lts = common::system(&rt, RING);
-    let form = form(&rt, "<a>true");
+    let (lts, form) = (system(&rt, RING), form(&rt, "<a>true"));
     let game = game(&rt, &lts, &form);
     has_vertices(&rt, &lts, &form, &game);
     is_written(&rt, &game, STEP);
@@ -84,25 +67,19 @@ fn vertices_are_known_by_their_names(rt: HostRuntime) {
     drop(lts);
 }
 
+const LAST: GameRow = (Player::Odd, 1, &[1]);
+
 // Of two vertices the second leads to itself, and the first to it and itself, or else its priority is too great, or it leads nowhere.
 static GAMES: [(bool, &[GameRow]); 3] = [
-    (true, &[(Player::Even, 0, &[0, 1]), (Player::Odd, 1, &[1])]),
-    (
-        false,
-        &[(Player::Even, 33, &[0, 1]), (Player::Odd, 1, &[1])],
-    ),
-    (false, &[(Player::Even, 0, &[]), (Player::Odd, 1, &[1])]),
+    (true, &[(Player::Even, 0, &[0, 1]), LAST]),
+    (false, &[(Player::Even, 33, &[0, 1]), LAST]),
+    (false, &[(Player::Even, 0, &[]), LAST]),
 ];
-
-fn is_game(rt: &impl Host, rows: &[GameRow]) -> bool {
-    made(rt, rows)
-        .expect(rt, "memory")
-        .is_some_and(|game| game.count(1) == 1)
-}
 
 #[test]
 fn what_is_no_game_is_told(rt: HostRuntime) {
     for (wanted, rows) in &GAMES {
-        holds!(&rt; is_game(&rt, rows) == *wanted);
+        let game = made(&rt, rows).expect(&rt, "memory");
+        holds!(&rt; game.is_some_and(|game| game.count(1) == 1) == *wanted);
     }
 }

@@ -3,9 +3,7 @@
 use crate::common::{form, system};
 use game::build::build_seen;
 use game::gauge::{Gauge, GaugeReading};
-use game::graph::Game;
 use samples::holds;
-use samples::host::Host;
 use samples::texts::RING;
 use std::process::Abort;
 
@@ -33,20 +31,12 @@ fn a_gauge_shows_how_far_a_part_has_come(rt: HostRuntime) {
     holds!(&rt; gauge.reading().is_none(), "when it is cleared");
 }
 
-// The game, of which a gauge shows how it is made.
-fn game_seen(rt: &impl Host, gauge: &Gauge) -> Game {
-    let lts = system(rt, RING);
-    let form = form(rt, "<a>true");
-    let game = build_seen(rt, rt.alloc(), &lts, &form, Some(gauge)).expect(rt, "memory");
-    drop(form);
-    drop(lts);
-    game
-}
-
 #[test]
 fn a_game_shows_how_many_of_its_vertices_are_made(rt: HostRuntime) {
-    let gauge = Gauge::new();
-    let game = game_seen(&rt, &gauge);
+    let (gauge, lts, form) = (Gauge::new(), system(&rt, RING), form(&rt, "<a>true"));
+    let game = build_seen(&rt, rt.alloc(), &lts, &form, Some(&gauge)).expect(&rt, "memory");
+    drop(form);
+    drop(lts);
     holds!(&rt; game.vertices() == 6);
     drop(game);
     reads(&rt, &gauge, 4, 4);

@@ -4,9 +4,8 @@
 ghost use Rattle.std.specs.Prelude.{◌≡◌};
 
 use crate::common::{
-    STEPS, Written, even_of, game_by_hand, game_of, is_written, odd_of, repeated, same,
+    Format, Written, even_of, game_by_hand, is_cut, is_read, is_written, odd_of, ring_game,
 };
-use evidence::error::EvidenceError;
 use evidence::evidence::Evidence;
 use evidence::reader::read_evidence;
 use evidence::verdict::{Both, Verdict};
@@ -18,22 +17,17 @@ use game::player::Player;
 use samples::games::{GameRow, push_row};
 use samples::holds;
 use samples::host::Host;
-use samples::readers::SlowReader;
 use samples::ring_games::{EVEN_OF_OFTEN_A, EVEN_OF_STEP, ODD_OF_OFTEN_A, ODD_OF_STEP};
-use samples::texts::RING;
+use samples::texts::repeated_text;
 use samples::writers::{AMPLE, Narrow};
 use std::alloc::{AllocError, Global};
+use std::io::Read;
 use std::process::Abort;
 
-// The game of six vertices.
-fn step(rt: &impl Host) -> Game {
-    game_of(rt, RING, "<a>true")
-}
+// The games of these have six vertices and sixteen.
+const STEP: &str = "<a>true";
 
-// The game of sixteen vertices.
-fn often_a(rt: &impl Host) -> Game {
-    game_of(rt, RING, "nu X. mu Y. (<a>X || <b>Y)")
-}
+const OFTEN_A: &str = "nu X. mu Y. (<a>X || <b>Y)";
 
 impl Written for Evidence {
     fn is_written(&self, out: &mut Narrow) -> bool {
@@ -41,46 +35,41 @@ impl Written for Evidence {
     }
 }
 
-// A piece of evidence is good, and not of both players.
-fn is_good(rt: &impl Abort, game: &Game, evidence: &Evidence)
-    requires { evidence.now.game ≡ game.now }
-{
-    holds!(rt; verify(game, evidence) == Verdict::Good);
-    holds!(rt; check_both(game, evidence, evidence) == Both::OnePlayer);
-}
-
-// Both pieces are good, and of two players whom no vertex escapes.
+// Both pieces are good, none is of both players, and they are of two players whom no vertex escapes.
 fn are_both(rt: &impl Abort, game: &Game, even: &Evidence, odd: &Evidence)
     requires even { even.now.game ≡ game.now }
     requires odd { odd.now.game ≡ game.now }
 {
     holds!(rt; even.player() == Player::Even && odd.player() == Player::Odd);
-    is_good(rt, game, even);
-    is_good(rt, game, odd);
+    holds!(rt; verify(game, even) == Verdict::Good && verify(game, odd) == Verdict::Good);
+    holds!(rt; check_both(game, even, even) == Both::OnePlayer);
+    holds!(rt; check_both(game, odd, odd) == Both::OnePlayer);
     holds!(rt; check_both(game, even, odd) == Both::Yes);
     holds!(rt; check_both(game, odd, even) == Both::Yes);
 }
 
 // What is made of each player is good, and is written so.
-fn gives_both(rt: &impl Host, game: &Game, even_text: &str, odd_text: &str) {
-    let even = even_of(rt, game);
-    holds!(rt; greatest_priority(game) <= 31);
-    let odd = odd_of(rt, game);
-    are_both(rt, game, &even, &odd);
+fn gives_both(rt: &impl Host, game: Game, even_text: &str, odd_text: &str) {
+    let even = even_of(rt, &game);
+    holds!(rt; greatest_priority(&game) <= 31);
+    let odd = odd_of(rt, &game);
+    are_both(rt, &game, &even, &odd);
     is_written(rt, &even, even_text);
     is_written(rt, &odd, odd_text);
     drop(odd);
     drop(even);
+    drop(game);
 }
 
 #[test]
 fn evidence_of_the_examples(rt: HostRuntime) {
-    let six = step(&rt);
-    gives_both(&rt, &six, EVEN_OF_STEP, ODD_OF_STEP);
-    drop(six);
-    let sixteen = often_a(&rt);
-    gives_both(&rt, &sixteen, EVEN_OF_OFTEN_A, ODD_OF_OFTEN_A);
-    drop(sixteen);
+    gives_both(&rt, ring_game(&rt, STEP), EVEN_OF_STEP, ODD_OF_STEP);
+    gives_both(
+        &rt,
+        ring_game(&rt, OFTEN_A),
+        EVEN_OF_OFTEN_A,
+        ODD_OF_OFTEN_A,
+    );
 }
 
 // Small games, and the evidence of each.
@@ -108,9 +97,7 @@ static SMALL: [(&[GameRow], &str, &str); 2] = [
 #[test]
 fn evidence_of_small_games(rt: HostRuntime) {
     for (rows, even, odd) in &SMALL {
-        let game = game_by_hand(&rt, rows);
-        gives_both(&rt, &game, even, odd);
-        drop(game);
+        gives_both(&rt, game_by_hand(&rt, rows), even, odd);
     }
 }
 
@@ -149,7 +136,7 @@ fn are_judged(rt: &impl Host, game: &Game, even: &Evidence, odd: &Evidence)
 // The lines of the one text stand in another order, and its last end is missing.
 #[test]
 fn verdicts_of_a_step(rt: HostRuntime) {
-    let game = step(&rt);
+    let game = ring_game(&rt, STEP);
     let even = read(
         &rt,
         &game,
@@ -165,21 +152,19 @@ fn verdicts_of_a_step(rt: HostRuntime) {
     drop(game);
 }
 
-// What was read, as it is told: a refusal, or `read`.
-fn told(alloc: Global, read: &Result<Evidence, EvidenceError>) -> Result<String, AllocError> {
-    match read {
-        Ok(_) => String::from_str(alloc, "read"),
-        Err(error) => error.to_string(alloc),
-    }
+// That evidence in a game is read, or the refusal.
+#[derive(Drop)]
+struct EvidenceIn<'a> {
+    game: &'a Game,
 }
 
-// What is told of what a reader gives is this.
-fn is_told(rt: &impl Host, game: &Game, reader: SlowReader<'_>, wanted: &str) {
-    let read = read_evidence(rt.alloc(), reader, game);
-    let told = told(rt.alloc(), &read).expect(rt, "memory");
-    drop(read);
-    same(rt, "evidence", told.as_str(), wanted);
-    drop(told);
+impl Format for EvidenceIn<'_> {
+    fn shown<R: Read + Drop>(&self, alloc: Global, reader: R) -> Result<String, AllocError> {
+        match read_evidence(alloc, reader, self.game) {
+            Ok(_) => String::from_str(alloc, "read"),
+            Err(error) => error.to_string(alloc),
+        }
+    }
 }
 
 // Texts that have one part 300 times, and how they are refused. A number of any length is a number.
@@ -204,17 +189,10 @@ static REFUSED: [(&str, &str, &str, &str); 16] = [
 
 #[test]
 fn texts_are_refused_in_any_pieces(rt: HostRuntime) {
-    let game = often_a(&rt);
+    let game = ring_game(&rt, OFTEN_A);
     for (front, part, back, wanted) in &REFUSED {
-        let text = repeated(&rt, front, part, 300, back);
-        for step in &STEPS {
-            is_told(
-                &rt,
-                &game,
-                SlowReader::whole(text.as_bytes(), *step),
-                wanted,
-            );
-        }
+        let text = repeated_text(rt.alloc(), front, part, 300, back).expect(&rt, "memory");
+        is_read(&rt, &EvidenceIn { game: &game }, &text, wanted);
         drop(text);
     }
     drop(game);
@@ -223,29 +201,22 @@ fn texts_are_refused_in_any_pieces(rt: HostRuntime) {
 // What evidence is read doesn't depend on the pieces in which it comes, and each read fails in turn.
 #[test]
 fn evidence_is_read_by_pieces(rt: HostRuntime) {
-    let (game, text) = (often_a(&rt), EVEN_OF_OFTEN_A.as_bytes());
-    for step in &STEPS {
-        is_told(&rt, &game, SlowReader::whole(text, *step), "read");
-    }
-    for given in 0..text.len() {
-        is_told(&rt, &game, SlowReader::failing(text, 7, given), "E4");
-    }
+    let game = ring_game(&rt, OFTEN_A);
+    let format = EvidenceIn { game: &game };
+    is_read(&rt, &format, EVEN_OF_OFTEN_A, "read");
+    is_cut(&rt, &format, EVEN_OF_OFTEN_A, 7, "E4");
     drop(game);
-}
-
-fn is_turned(rt: &impl Abort, turned: &Game) {
-    holds!(rt; greatest_priority(turned) == 3 && turned.vertices() == 16);
-    holds!(rt; turned.owner(11) == Player::Odd && turned.priority(9) == 3);
-    holds!(rt; turned.successors(11) == [12, 14].as_slice());
 }
 
 #[test]
 fn the_dual_of_the_example(rt: HostRuntime) {
-    let game = often_a(&rt);
+    let game = ring_game(&rt, OFTEN_A);
     holds!(&rt; greatest_priority(&game) <= 31);
     let turned = dual(rt.alloc(), &game).expect(&rt, "memory");
     drop(game);
-    is_turned(&rt, &turned);
+    holds!(&rt; greatest_priority(&turned) == 3 && turned.vertices() == 16);
+    holds!(&rt; turned.owner(11) == Player::Odd && turned.priority(9) == 3);
+    holds!(&rt; turned.successors(11) == [12, 14].as_slice());
     drop(turned);
 }
 
@@ -253,26 +224,19 @@ fn the_dual_of_the_example(rt: HostRuntime) {
 fn halving(rt: &impl Host, vertices: u32) -> Game {
     let mut builder = GameBuilder::new(rt.alloc());
     for v in 0..vertices {
-        let priority = if v == 0 { 0 } else { 1 };
-        push_row(&mut builder, Player::Odd, priority, &[v / 2]).expect(rt, "memory");
+        push_row(&mut builder, Player::Odd, u8::from(v > 0), &[v / 2]).expect(rt, "memory");
     }
     builder.finish().expect(rt, "a game")
-}
-
-fn is_evens(rt: &impl Host, game: &Game) {
-    let even = even_of(rt, game);
-    holds!(rt; greatest_priority(game) <= 31);
-    let odd = odd_of(rt, game);
-    holds!(rt; even.len() == 1_000_000 && odd.len() == 0);
-    are_both(rt, game, &even, &odd);
-    drop(odd);
-    drop(even);
 }
 
 #[test]
 fn a_million_vertices_are_verified(rt: HostRuntime) {
     let game = halving(&rt, 1_000_000);
     holds!(&rt; greatest_priority(&game) == 1);
-    is_evens(&rt, &game);
+    let (even, odd) = (even_of(&rt, &game), odd_of(&rt, &game));
+    holds!(&rt; even.len() == 1_000_000 && odd.len() == 0);
+    are_both(&rt, &game, &even, &odd);
+    drop(odd);
+    drop(even);
     drop(game);
 }

@@ -16,34 +16,26 @@ fn is_next<B: Blocks>(rt: &impl Abort, reader: &mut B, line: &mut Vec<u8>, wante
     holds!(rt; line.as_slice() == wanted.as_bytes(), wanted);
 }
 
-fn has_lines<B: Blocks>(rt: &impl Abort, reader: &mut B, line: &mut Vec<u8>) {
-    for wanted in ["", "a\rb\r", "c"] {
-        is_next(rt, reader, line, wanted);
-    }
-    holds!(rt; next_line(reader, line) == Ok(false));
-}
-
 #[test]
 fn texts_have_lines(rt: HostRuntime) {
     let mut reader = blocks_of(rt.alloc(), b"\r\na\rb\r\r\nc\r".as_slice()).expect(&rt, "memory");
     let mut line = Vec::new(rt.alloc());
-    has_lines(&rt, &mut reader, &mut line);
+    for wanted in ["", "a\rb\r", "c"] {
+        is_next(&rt, &mut reader, &mut line, wanted);
+    }
+    holds!(&rt; next_line(&mut reader, &mut line) == Ok(false));
     drop(line);
     drop(reader);
 }
 
 // The first line is read, and the second one's end fails.
-fn fails_after_a_line<B: Blocks>(rt: &impl Abort, reader: &mut B, line: &mut Vec<u8>) {
-    is_next(rt, reader, line, "a");
-    holds!(rt; next_line(reader, line) == Err(ReadFault::Read));
-}
-
 #[test]
 fn a_failed_read_is_no_line(rt: HostRuntime) {
     let failing = SlowReader::failing(b"a\nb", 1, 3);
     let mut reader = blocks_of(rt.alloc(), failing).expect(&rt, "memory");
     let mut line = Vec::new(rt.alloc());
-    fails_after_a_line(&rt, &mut reader, &mut line);
+    is_next(&rt, &mut reader, &mut line, "a");
+    holds!(&rt; next_line(&mut reader, &mut line) == Err(ReadFault::Read));
     drop(line);
     drop(reader);
 }
@@ -63,27 +55,23 @@ fn tokens_are_found_in_a_line(rt: HostRuntime) {
 }
 
 // Each is taken off what the reader has left. Of a quote the first four bytes are kept.
-fn are_taken<B: Blocks>(rt: &impl Abort, reader: &mut B, kept: &mut Vec<u8>) {
-    holds!(rt; stream::word(reader, b"des") == Ok(true));
-    holds!(rt; stream::sign(reader, b'(') == Ok(true));
-    holds!(rt; stream::number(reader, kept) == Ok(Some(12)));
-    holds!(rt; stream::sign(reader, b'(') == Ok(false));
-    holds!(rt; stream::number_before(reader, b',', kept) == Ok(None));
-    holds!(rt; stream::sign(reader, b',') == Ok(true));
-    holds!(rt; stream::number_before(reader, b',', kept) == Ok(Some(7)));
-    holds!(rt; stream::quoted(reader, 4, kept) == Ok(true));
-    holds!(rt; kept.as_slice() == b"abcd".as_slice());
-    holds!(rt; stream::has_ended(reader) == Ok(true));
-    holds!(rt; stream::has_line(reader) == Ok(true));
-    holds!(rt; stream::has_ended(reader) == Ok(false));
-}
-
 #[test]
 fn tokens_are_taken_off_a_reader(rt: HostRuntime) {
     let text = b"des ( 12 ,7, \"abcdef\" \t\r\nx".as_slice();
     let mut reader = blocks_of(rt.alloc(), text).expect(&rt, "memory");
-    let mut kept = Vec::new(rt.alloc());
-    are_taken(&rt, &mut reader, &mut kept);
+    let (from, mut kept) = (&mut reader, Vec::new(rt.alloc()));
+    holds!(&rt; stream::word(from, b"des") == Ok(true));
+    holds!(&rt; stream::sign(from, b'(') == Ok(true));
+    holds!(&rt; stream::number(from, &mut kept) == Ok(Some(12)));
+    holds!(&rt; stream::sign(from, b'(') == Ok(false));
+    holds!(&rt; stream::number_before(from, b',', &mut kept) == Ok(None));
+    holds!(&rt; stream::sign(from, b',') == Ok(true));
+    holds!(&rt; stream::number_before(from, b',', &mut kept) == Ok(Some(7)));
+    holds!(&rt; stream::quoted(from, 4, &mut kept) == Ok(true));
+    holds!(&rt; kept.as_slice() == b"abcd".as_slice());
+    holds!(&rt; stream::has_ended(from) == Ok(true));
+    holds!(&rt; stream::has_line(from) == Ok(true));
+    holds!(&rt; stream::has_ended(from) == Ok(false));
     drop(kept);
     drop(reader);
 }

@@ -1,11 +1,9 @@
 // Words of formulas that no label of a system has. The systems are small, and which words are strange was read off them. tests/answers has more.
 
 use crate::common;
-use crate::common::same;
-use calculus::closed::Closed;
+use crate::common::{is_told, system};
 use formula::absent::first_absent;
 use formula::strange::{Word, strange_words};
-use lts::Lts;
 use samples::holds;
 use samples::host::Host;
 use samples::texts::RING;
@@ -22,18 +20,6 @@ fn shown(rt: &impl Host, words: &[Word<'_>]) -> String {
         write!(text, "{kind}{bytes};").expect(rt, "memory");
     }
     text
-}
-
-fn are_strange(rt: &impl Host, system: &Lts, formula: &Closed, wanted: &str) {
-    let words = strange_words(rt.alloc(), system, formula).expect(rt, "memory");
-    let shown = shown(rt, words.as_slice());
-    drop(words);
-    same(rt, "strange", shown.as_str(), wanted);
-    drop(shown);
-}
-
-fn absent(rt: &impl Host, system: &Lts, formula: &str) -> Option<usize> {
-    first_absent(rt.alloc(), system, formula.as_bytes()).expect(rt, "memory")
 }
 
 /// Labels of every kind: two names, one name, the empty multiset, and a label that is read as nothing.
@@ -63,11 +49,13 @@ static STRANGE: [(&str, &str, &str, Option<usize>); 4] = [
 ];
 
 fn has_words(rt: &impl Host, text: &str, formula: &str, wanted: &str, place: Option<usize>) {
-    let system = common::system(rt, text);
-    let closed = common::formula(rt, formula);
-    are_strange(rt, &system, &closed, wanted);
+    let (system, closed) = (system(rt, text), common::formula(rt, formula));
+    let words = strange_words(rt.alloc(), &system, &closed).expect(rt, "memory");
+    is_told(rt, Ok(shown(rt, words.as_slice())), wanted);
+    drop(words);
     drop(closed);
-    holds!(rt; absent(rt, &system, formula) == place, formula);
+    let absent = first_absent(rt.alloc(), &system, formula.as_bytes());
+    holds!(rt; absent.expect(rt, "memory") == place, formula);
     drop(system);
 }
 

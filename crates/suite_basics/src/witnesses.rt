@@ -35,8 +35,7 @@ fn is_a_step(rt: &impl Host, ring: &Lts, normal: &Normal, game: &Game, evidence:
 
 // Of a formula that Even or Odd wins at the ring's first state.
 fn shows_a_step(rt: &impl Host, formula: &str, is_evens: bool) {
-    let ring = system(rt, RING);
-    let normal = form(rt, formula);
+    let (ring, normal) = (system(rt, RING), form(rt, formula));
     let game = game(rt, &ring, &normal);
     if is_evens {
         is_a_step(rt, &ring, &normal, &game, &even_of(rt, &game));
@@ -80,19 +79,15 @@ fn drawings_are_to_the_letter(rt: HostRuntime) {
 }
 
 // The diamond's `a` and the box's `!a`, by the ring's labels `a` and `b`; the other nodes have no labels.
-fn are_sets(rt: &impl Host, sets: &[Vec<bool>]) {
-    holds!(rt; sets.len() == 3);
-    holds!(rt; sets[0].as_slice() == [true, false].as_slice());
-    holds!(rt; sets[1].as_slice() == [false, true].as_slice() && sets[2].is_empty());
-}
-
 #[test]
 fn nodes_know_the_labels_that_pass(rt: HostRuntime) {
-    let system = system(&rt, RING);
-    let form = form(&rt, "<a>[!a]false");
+    let (system, form) = (system(&rt, RING), form(&rt, "<a>[!a]false"));
     let sets = label_sets(rt.alloc(), &system, &form).expect(&rt, "memory");
     drop(form);
     drop(system);
-    are_sets(&rt, sets.as_slice());
+    let rows = sets.as_slice();
+    holds!(&rt; rows.len() == 3);
+    holds!(&rt; rows[0].as_slice() == [true, false].as_slice());
+    holds!(&rt; rows[1].as_slice() == [false, true].as_slice() && rows[2].is_empty());
     drop(sets);
 }
