@@ -16,12 +16,10 @@ use game::build::build;
 use game::graph::Game;
 use lts::Lts;
 use measures::settle::solve_one;
-use normal::make::normal;
-use samples::games::{GameRow, game_of_rows};
 use samples::holds;
 use samples::host::Host;
 use samples::readers::SlowReader;
-use samples::texts::{RING, parsed_formula, system_read};
+use samples::texts::{RING, form_of, parsed_formula, system_read};
 use samples::writers::{AMPLE, AtEnd, Narrow};
 use std::alloc::{AllocError, Global};
 use std::io::Read;
@@ -146,10 +144,7 @@ pub(crate) fn formula(rt: &impl Host, text: &str) -> Closed {
 
 /// The normal form of a text's formula.
 pub(crate) fn form(rt: &impl Host, text: &str) -> Normal {
-    let formula = formula(rt, text);
-    let form = normal(rt.alloc(), &formula).expect(rt, "a normal form");
-    drop(formula);
-    form
+    form_of(rt.alloc(), text).expect(rt, "a normal form")
 }
 
 /// The game of a system and a normal form.
@@ -158,9 +153,4 @@ pub(crate) fn game(rt: &impl Host, system: &Lts, form: &Normal) -> Game
     ensures low { greatest result ≤ GREATEST_PRIORITY }
 {
     build(rt, rt.alloc(), system, form).expect(rt, "a game")
-}
-
-/// The game of these rows.
-pub(crate) fn game_by_hand(rt: &impl Host, rows: &[GameRow]) -> Game {
-    game_of_rows(rt, rows).expect(rt, "a game")
 }

@@ -1,13 +1,11 @@
 // Texts of games in the format of PGSolver, written by hand from docs/FORMATS.md, by readers and writers that fail, are slow or are interrupted. tests/hostile
 // and tests/commands have what is wrong with texts.
 
-use crate::common::{
-    Format, Written, game_by_hand, is_cut, is_either, is_read, is_told, is_written,
-};
+use crate::common::{Format, Written, is_cut, is_either, is_read, is_told, is_written};
 use game::graph::Game;
 use game::player::Player;
 use pgsolver::{read_game, write_game};
-use samples::games::GameRow;
+use samples::games::{GameRow, game_of_rows};
 use samples::readers::Halting;
 use samples::writers::Narrow;
 use std::alloc::{AllocError, Global};
@@ -82,7 +80,7 @@ impl Written for Game {
 
 #[test]
 fn texts_are_written_as_far_as_there_is_room(rt: HostRuntime) {
-    let game = game_by_hand(&rt, &ROWS);
+    let game = game_of_rows(&rt, &ROWS).expect(&rt, "a game");
     is_written(&rt, &game, TWO);
     drop(game);
 }

@@ -1,24 +1,19 @@
 // Games that were worked out by hand, by their texts in PGSolver's format.
 
-ghost use Rattle.std.specs.Prelude.{◌≡◌, ◌<◌, ◌≤◌};
-ghost use Rattle.calculus.specs.Normal.{normal_nodes};
-ghost use Rattle.game.specs.Arena.{arena};
+ghost use Rattle.std.specs.Prelude.{◌<◌, ◌≤◌};
 
 use crate::common::{form, game, is_either, is_written, system};
 use crate::game_texts::text_of;
-use calculus::form::Normal;
 use game::build::build_split;
 use game::error::BuildError;
 use game::graph::Game;
 use game::player::Player;
-use lts::Lts;
 use samples::games::{GameRow, made};
 use samples::holds;
 use samples::host::Host;
 use samples::ring_games::STEP;
 use samples::texts::{RING, form_of, system_read};
 use std::alloc::{AllocError, Global};
-use std::process::Abort;
 
 // The game, or the refusal.
 fn shown(alloc: Global, game: Result<Game, BuildError>) -> Result<String, AllocError> {
@@ -47,20 +42,14 @@ fn out_of_memory_for_any_split_is_told_as_such(rt: HostRuntime) {
 }
 
 // The vertex of each state with each node.
-fn has_vertices(rt: &impl Abort, lts: &Lts, form: &Normal, game: &Game)
-    requires { game.now ≡ arena lts.now.system (normal_nodes form.now) }
-{
-    holds!(rt; lts.states() == 2 && form.count() == 2);
-    holds!(rt; game.vertex_of(0, 1) == 3 && game.vertex_of(1, 0) == 4);
-    let rows = game.state_rows(1);
-    holds!(rt; rows.start == 4 && rows.end == 6);
-}
-
 #[test]
 fn vertices_are_known_by_their_names(rt: HostRuntime) {
     let (lts, form) = (system(&rt, RING), form(&rt, "<a>true"));
     let game = game(&rt, &lts, &form);
-    has_vertices(&rt, &lts, &form, &game);
+    holds!(&rt; lts.states() == 2 && form.count() == 2);
+    holds!(&rt; game.vertex_of(0, 1) == 3 && game.vertex_of(1, 0) == 4);
+    let rows = game.state_rows(1);
+    holds!(&rt; rows.start == 4 && rows.end == 6);
     is_written(&rt, &game, STEP);
     drop(game);
     drop(form);

@@ -3,9 +3,7 @@
 
 ghost use Rattle.std.specs.Prelude.{◌≡◌};
 
-use crate::common::{
-    Format, Written, even_of, game_by_hand, is_cut, is_read, is_written, odd_of, ring_game,
-};
+use crate::common::{Format, Written, even_of, is_cut, is_read, is_written, odd_of, ring_game};
 use evidence::evidence::Evidence;
 use evidence::reader::read_evidence;
 use evidence::verdict::{Both, Verdict};
@@ -14,7 +12,7 @@ use evidence::writer::{write_both, write_evidence, write_verdict};
 use game::dual::{dual, greatest_priority};
 use game::graph::{Game, GameBuilder};
 use game::player::Player;
-use samples::games::{GameRow, push_row};
+use samples::games::{GameRow, game_of_rows, push_row};
 use samples::holds;
 use samples::host::Host;
 use samples::ring_games::{EVEN_OF_OFTEN_A, EVEN_OF_STEP, ODD_OF_OFTEN_A, ODD_OF_STEP};
@@ -97,56 +95,33 @@ static SMALL: [(&[GameRow], &str, &str); 2] = [
 #[test]
 fn evidence_of_small_games(rt: HostRuntime) {
     for (rows, even, odd) in &SMALL {
-        gives_both(&rt, game_by_hand(&rt, rows), even, odd);
+        let game = game_of_rows(&rt, rows).expect(&rt, "a game");
+        gives_both(&rt, game, even, odd);
     }
 }
 
-fn read(rt: &impl Host, game: &Game, text: &str) -> Evidence
-    ensures { result.game ≡ game.now }
-{
-    read_evidence(rt.alloc(), text.as_bytes(), game).expect(rt, "memory")
-}
+// Its lines stand in another order than they are written in, and its last end is missing.
+const TURNED: &str = "evidence even\n5 0 (0)\n0 0 (0)\n3 0 (0)\n2 5 (0)";
 
-// A vertex of the set goes on to another one, and has this rank; another one isn't in the set.
-fn has_entries(rt: &impl Abort, game: &Game, even: &Evidence)
-    requires { even.now.game ≡ game.now }
-{
-    holds!(rt; 1 < game.vertices());
-    holds!(rt; 2 < game.vertices());
-    holds!(rt; even.has(2) && !even.has(1) && even.get(1).is_none());
-    let Some(entry) = even.get(2) else {
-        panic!(rt; "no entry")
-    };
-    holds!(rt; entry.next == Some(5) && entry.rank == [0].as_slice());
-}
-
-// What a checker says of evidence, and of both pieces.
-fn are_judged(rt: &impl Host, game: &Game, even: &Evidence, odd: &Evidence)
-    requires even { even.now.game ≡ game.now }
-    requires odd { odd.now.game ≡ game.now }
-{
-    let mut out = Narrow::new(rt.alloc(), 3, AMPLE);
-    holds!(rt; write_verdict(even, verify(game, even), &mut out).is_ok());
-    holds!(rt; write_both(even, odd, check_both(game, even, odd), &mut out).is_ok());
-    let wanted = b"verified even 4 of 6\nverified both even 4 odd 2 of 6\n".as_slice();
-    holds!(rt; out.taken.as_slice() == wanted);
-    drop(out);
-}
-
-// The lines of the one text stand in another order, and its last end is missing.
+// What a checker says of evidence, and of both pieces. A vertex of the set goes on to another one, and has this rank; another one isn't in the set.
 #[test]
 fn verdicts_of_a_step(rt: HostRuntime) {
     let game = ring_game(&rt, STEP);
-    let even = read(
-        &rt,
-        &game,
-        "evidence even\n5 0 (0)\n0 0 (0)\n3 0 (0)\n2 5 (0)",
-    );
-    let odd = read(&rt, &game, ODD_OF_STEP);
-    are_judged(&rt, &game, &even, &odd);
-    is_written(&rt, &even, EVEN_OF_STEP);
-    has_entries(&rt, &game, &even);
+    let even = read_evidence(rt.alloc(), TURNED.as_bytes(), &game).expect(&rt, "even");
+    let odd = read_evidence(rt.alloc(), ODD_OF_STEP.as_bytes(), &game).expect(&rt, "odd");
     holds!(&rt; even.len() == 4 && odd.len() == 2);
+    let mut out = Narrow::new(rt.alloc(), 3, AMPLE);
+    holds!(&rt; write_verdict(&even, verify(&game, &even), &mut out).is_ok());
+    holds!(&rt; write_both(&even, &odd, check_both(&game, &even, &odd), &mut out).is_ok());
+    let wanted = b"verified even 4 of 6\nverified both even 4 odd 2 of 6\n".as_slice();
+    holds!(&rt; out.taken.as_slice() == wanted);
+    drop(out);
+    is_written(&rt, &even, EVEN_OF_STEP);
+    holds!(&rt; 1 < game.vertices());
+    holds!(&rt; 2 < game.vertices());
+    holds!(&rt; even.has(2) && !even.has(1) && even.get(1).is_none());
+    let entry = even.get(2).expect(&rt, "an entry");
+    holds!(&rt; entry.next == Some(5) && entry.rank == [0].as_slice());
     drop(odd);
     drop(even);
     drop(game);
