@@ -39,11 +39,6 @@ pub fn game_of_rows(rt: &impl AllocGlobal, rows: &[GameRow]) -> Option<Game> {
     made(rt, rows).ok()?
 }
 
-/// The game of these vertices, to be shared, where they make one and memory suffices.
-pub fn shared_game_of(rt: &impl AllocGlobal, rows: &[GameRow]) -> Option<Arc<Game>> {
-    Arc::new(rt.alloc(), game_of_rows(rt, rows)?).ok()
-}
-
 /// The game of the texts of a system and of a formula, to be shared, where they are such and memory suffices.
 pub fn shared_arena_of(
     rt: &(impl AllocGlobal + Threads + Sync),

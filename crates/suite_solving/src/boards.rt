@@ -4,32 +4,18 @@ ghost use Rattle.std.specs.Prelude.{◌≡◌, ◌<◌, ◌≤◌, length};
 ghost use Rattle.std.specs.Arc.{arc_value};
 ghost use Rattle.tables.specs.Seats.{board_game, IsSeatOf};
 
-use crate::common::{STEP, board_of_shards, board_of_words, finished, settled, shared_game};
+use crate::common::*;
 use crate::progress_measures::{LEAST, is_as_wanted, nested_binders_game};
-use game::graph::Game;
-use game::name::GameName;
-use measures::measure::Measure;
 use measures::progs::is_measure;
 use measures::rank::{of_rank, rank, top_rank};
-use measures::table::PlainTable;
-use samples::holds;
-use samples::host::Host;
-use std::alloc::Global;
-use std::marker::Brand;
-use std::process::Abort;
-use std::sync::Arc;
 use std::thread::map_indices;
-use tables::board::Board;
-use tables::packed::{PackedBoard, PackedSeat};
-
-// How often one thread looks for what another does.
-const TURNS: u32 = 10_000_000;
+use tables::packed::PackedSeat;
 
 // In the game of a step vertex 4 leads to the false sink alone.
-fn step(rt: &impl Host) -> Arc<Game, Global>
+fn step(rt: &impl Host) -> Arc<Game>
     ensures { 4 < length (arc_value result).vertices }
 {
-    let game = shared_game(rt, &STEP);
+    let game = shared_game(rt, STEP);
     holds!(rt; 4 < game.vertices());
     game
 }
@@ -62,11 +48,12 @@ fn rises_on<B: Board>(rt: &impl Host, board: B, game: &Game)
 {
     let source = settled(rt, game);
     rises_once(rt, &board, &source);
-    let table = finished(rt, board, game);
+    let mut table = opened(rt, game);
+    board.finish(&mut table);
     holds!(rt; table.value(4).is_top() && !table.value(2).is_top());
 }
 
-fn rises_on_shards<K: GameName, R: Host>(rt: &R, game: &Arc<Game, Global>)
+fn rises_on_shards<K: GameName, R: Host>(rt: &R, game: &Arc<Game>)
     requires named { arc_value game.now ≡ K.game }
     requires vertex { 4 < length (arc_value game.now).vertices }
 {
@@ -134,7 +121,7 @@ fn lifts_or_looks(board: &PackedBoard, thread: usize) -> bool
     if thread == 0 {
         return board.lift(&mut seat, 4);
     }
-    for _ in 0..TURNS {
+    for _ in 0..10_000_000u32 {
         if board.load(&mut seat, 4).is_top() {
             return true;
         }
@@ -173,7 +160,7 @@ fn settles_least(board: &PackedBoard) -> bool
     };
     board.settle_seat(&mut seat);
     for v in 0..18u32 {
-        if !is_as_wanted(&board.load(&mut seat, v), &LEAST[v as usize]) {
+        if !is_as_wanted(&board.load(&mut seat, v), LEAST[v as usize]) {
             return false;
         }
     }
@@ -197,7 +184,7 @@ fn settles_at_once(rt: &impl Host, board: &PackedBoard)
 
 #[test]
 fn two_seats_settle_at_once(rt: HostRuntime) {
-    let game = Arc::new(rt.alloc(), nested_binders_game(&rt)).expect(&rt, "memory");
+    let game = shared_of(&rt, nested_binders_game(&rt));
     holds!(&rt; 18 <= game.vertices());
     let board = board_of_words(&rt, &game, 2);
     settles_at_once(&rt, &board);

@@ -10,8 +10,6 @@ mod common;
 #[cfg(test)]
 mod hubs;
 #[cfg(test)]
-mod late_rises;
-#[cfg(test)]
 mod many_workers;
 #[cfg(test)]
 mod observers;

@@ -3,159 +3,81 @@
 ghost use Rattle.std.specs.Prelude.{◌≡◌, ◌<◌};
 ghost use Rattle.std.specs.Arc.{arc_value};
 
-use crate::common::{board_of_shards, board_of_words, is_least, opened, shared_game};
-use game::graph::Game;
-use game::name::GameName;
-use game::player::Player;
-use measures::measure::Measure;
-use measures::settle::is_settled;
-use measures::table::PlainTable;
-use samples::games::GameRow;
-use samples::holds;
-use samples::host::Host;
+use crate::common::*;
 use samples::meeting::Meeting;
-use std::alloc::{AllocError, Global};
-use std::marker::Brand;
-use std::sync::Arc;
-use std::sync::atomic::{AtomicBool, AtomicU32, AtomicU64, Ordering};
-use tables::board::Board;
+use std::sync::atomic::AtomicU32;
 use tables::error::TableError;
-use workers::gate::Gate;
-use workers::solving::solve;
 
-// Two rings of priority 1, and a way of six vertices of priority 3 to a loop of priority 4. Odd may go over from the first ring to
-// the second, but not back. Even wins all: she leaves the rings where she may, at 0 and at 8, and then there is only the way to
-// the loop. Yet she asks for less by staying until what the rings ask for has climbed past six threes: for each of them through
-// the counts of sixteen ones.
-static TWO_RINGS: [GameRow; 23] = [
-    (Player::Even, 1, &[1, 16]),
-    (Player::Odd, 1, &[2]),
-    (Player::Even, 1, &[3]),
-    (Player::Odd, 1, &[4, 11]),
-    (Player::Even, 1, &[5]),
-    (Player::Odd, 1, &[6]),
-    (Player::Even, 1, &[7]),
-    (Player::Odd, 1, &[0]),
-    (Player::Even, 1, &[9, 16]),
-    (Player::Odd, 1, &[10]),
-    (Player::Even, 1, &[11]),
-    (Player::Odd, 1, &[12]),
-    (Player::Even, 1, &[13]),
-    (Player::Odd, 1, &[14]),
-    (Player::Even, 1, &[15]),
-    (Player::Odd, 1, &[8]),
-    (Player::Even, 3, &[17]),
-    (Player::Odd, 3, &[18]),
-    (Player::Even, 3, &[19]),
-    (Player::Odd, 3, &[20]),
-    (Player::Even, 3, &[21]),
-    (Player::Odd, 3, &[22]),
-    (Player::Even, 4, &[22]),
-];
-
-/// What is noted of a run: of each vertex how often it was read and how often it was somebody's turn, of two seats how often they read, how many seats
-/// there were and had had their last call when the board was finished, and whether what it was finished into was settled.
+/// What is noted of a run: of each vertex how often it was read, raised and somebody's turn, of two seats how often they read, how many seats there were and
+/// had had their last call, and whether all had when the board was finished, and what it was finished into was settled.
 #[derive(Drop)]
 struct Notes {
     workers: usize,
+    is_late: bool,
     meeting: Meeting,
+    reads: Counts,
+    raises: Counts,
+    turns: Counts,
+    by_seats: Counts,
     seats: AtomicU32,
     lasts: AtomicU32,
-    ended: AtomicBool,
-    settled: AtomicBool,
-    reads: Vec<AtomicU64>,
-    turns: Vec<AtomicU64>,
-    by_seats: [AtomicU64; 2],
-    ghost some_workers: { 0 < workers },
-}
-
-// Counters that stand at zero.
-fn counters(alloc: Global, count: u32) -> Result<Vec<AtomicU64>, AllocError> {
-    let mut counters = Vec::new(alloc);
-    for _ in 0..count {
-        counters.push(AtomicU64::new(0)).map_err(AllocError::from)?;
-    }
-    Ok(counters)
-}
-
-// One more in the counter of a vertex or a seat.
-fn count(counters: &[AtomicU64], v: u32) {
-    let at = v as usize;
-    if at < counters.len() {
-        counters[at].fetch_add(1, Ordering::SeqCst);
-    }
-}
-
-// What the counter of a vertex or a seat stands at.
-fn counted(counters: &[AtomicU64], v: u32) -> u64 {
-    let at = v as usize;
-    if at < counters.len() {
-        counters[at].load(Ordering::SeqCst)
-    } else {
-        0
-    }
+    ended: AtomicU64,
 }
 
 impl Notes {
-    fn new(alloc: Global, vertices: u32, workers: usize) -> Result<Self, AllocError>
-        requires { 0 < workers }
-    {
-        Ok(Notes {
+    fn new(rt: &impl Host, vertices: u32, workers: usize, is_late: bool) -> Self {
+        Notes {
             workers,
+            is_late,
             meeting: Meeting::new(),
+            reads: Counts::new(rt, vertices),
+            raises: Counts::new(rt, vertices),
+            turns: Counts::new(rt, vertices),
+            by_seats: Counts::new(rt, 2),
             seats: AtomicU32::new(0),
             lasts: AtomicU32::new(0),
-            ended: AtomicBool::new(false),
-            settled: AtomicBool::new(false),
-            reads: counters(alloc, vertices)?,
-            turns: counters(alloc, vertices)?,
-            by_seats: [AtomicU64::new(0), AtomicU64::new(0)],
-        })
+            ended: AtomicU64::new(0),
+        }
     }
 
     // Whether each successor of a vertex was read at least once in each of its turns, and each vertex had one.
     fn are_read(&self, game: &Game) -> bool {
-        let mut looked = 0u64;
         for v in 0..game.vertices() {
             for t in game.successors(v) {
-                if counted(&self.reads, *t) < counted(&self.turns, v) {
+                if self.reads.of(*t) < self.turns.of(v) {
                     return false;
                 }
             }
-            looked = looked.saturating_add(counted(&self.turns, v));
         }
-        looked >= u64::from(game.vertices())
+        self.turns.all() >= u64::from(game.vertices())
     }
 
-    // Whether two workers met at their first turns, and each of their seats read. Of another number of workers this asks
-    // nothing.
+    // Whether two workers met at their first turns, and each of their seats read. Of another number of workers this asks nothing.
     fn both_came(&self) -> bool {
         self.workers != 2
-            || self.meeting.took_place()
-                && counted(&self.by_seats, 0) > 0
-                && counted(&self.by_seats, 1) > 0
+            || self.meeting.took_place() && self.by_seats.of(0) > 0 && self.by_seats.of(1) > 0
     }
 
-    // Notes whether each seat has had its last call, now that the board is finished.
-    fn note_end(&self) {
+    fn note_end(&self, is_settled: bool) {
         let seats = self.seats.load(Ordering::SeqCst);
-        let ended = seats > 0 && self.lasts.load(Ordering::SeqCst) == seats;
-        self.ended.store(ended, Ordering::SeqCst);
+        let ended = is_settled && seats > 0 && self.lasts.load(Ordering::SeqCst) == seats;
+        self.ended.store(u64::from(ended), Ordering::SeqCst);
     }
 
-    // Whether the workers did all of it: each seat ended, the vertices were read as often as they should be, and nothing was left to lift.
-    fn ended_well(&self, game: &Game) -> bool {
-        self.ended.load(Ordering::SeqCst)
-            && self.settled.load(Ordering::SeqCst)
-            && self.both_came()
-            && self.are_read(game)
+    // Whether each seat ended, and nothing was left to lift.
+    fn ended(&self) -> bool {
+        self.ended.load(Ordering::SeqCst) == 1
     }
 }
 
+/// In a late run who raises the second vertex waits until the reader has raised its own.
 impl Gate for Notes {
     fn before(&self, worker: usize, v: u32) {
-        count(&self.turns, v);
-        if self.workers == 2 {
+        self.turns.add(v);
+        if self.is_late && v == READ {
+            self.raises.wait_for(READER);
+        }
+        if !self.is_late && self.workers == 2 {
             self.meeting.before(worker, v);
         }
     }
@@ -200,13 +122,18 @@ impl<'a, B: Board + Drop> Board for NotingBoard<'a, B> {
     }
 
     fn read(&self, seat: &mut NotedSeat<B::Seat>, v: u32) -> Measure {
-        count(&self.notes.reads, v);
-        count(&self.notes.by_seats, seat.number);
+        self.notes.reads.add(v);
+        self.notes.by_seats.add(seat.number);
         self.inner.read(&mut seat.inner, v)
     }
 
     fn raise(&self, seat: &mut NotedSeat<B::Seat>, v: u32, m: &Measure) -> bool {
-        self.inner.raise(&mut seat.inner, v, m)
+        let rose = self.inner.raise(&mut seat.inner, v, m);
+        self.notes.raises.add(v);
+        if self.notes.is_late && v == READER {
+            self.notes.turns.wait_for(AFTER);
+        }
+        rose
     }
 
     fn last(&self, _seat: &mut NotedSeat<B::Seat>) {
@@ -215,63 +142,54 @@ impl<'a, B: Board + Drop> Board for NotingBoard<'a, B> {
 
     fn finish(self, table: &mut PlainTable) {
         let NotingBoard { inner, game, notes } = self;
-        notes.note_end();
         inner.finish(table);
-        notes
-            .settled
-            .store(is_settled(game, table), Ordering::SeqCst);
+        notes.note_end(is_settled(game, table));
     }
 }
 
-// Whether workers who lift over a board end well, and come to the table of one thread.
-fn ends_well_on<B: Board + Drop + Sync>(
+// Whether workers who lift over a board come to the table of one thread.
+fn find_the_least<B: Board + Drop + Sync>(
     rt: &impl Host,
-    game: &Arc<Game, Global>,
+    game: &Arc<Game>,
     inner: B,
     workers: usize,
+    notes: &Notes,
 ) -> bool
     requires board { B.game inner ≡ arc_value game.now }
     requires workers { 0 < workers }
 {
-    let notes = &Notes::new(rt.alloc(), game.vertices(), workers).expect(rt, "memory");
     let board = NotingBoard { inner, game, notes };
     let solved = solve(rt, rt.alloc(), game, board, workers, notes).expect(rt, "memory");
-    notes.ended_well(game) && is_least(rt, game, &solved)
+    is_least(rt, game, &solved)
 }
 
-// Whether they do over shards under locks.
-fn ends_well<K: GameName + Send + Sync, R: Host>(
+// Workers over shards under locks, or over words, did all of it: each seat ended, the vertices were read as often as they should be, nothing was left to
+// lift, and it is the table of one thread.
+fn end_well<K: GameName + Send + Sync, R: Host>(
     rt: &R,
-    game: &Arc<Game, Global>,
+    game: &Arc<Game>,
+    shards: u32,
     workers: usize,
-) -> bool
+)
     requires named { arc_value game.now ≡ K.game }
     requires workers { 0 < workers }
 {
-    let board = board_of_shards::<K, R>(rt, game, 16);
-    ends_well_on(rt, game, board, workers)
+    let notes = &Notes::new(rt, game.vertices(), workers, false);
+    let is_least = if shards == WORDS {
+        find_the_least(rt, game, board_of_words(rt, game, 1), workers, notes)
+    } else {
+        let board = board_of_shards::<K, R>(rt, game, shards);
+        find_the_least(rt, game, board, workers, notes)
+    };
+    let is_so = is_least && notes.ended() && notes.both_came() && notes.are_read(game);
+    holds_of(rt, is_so, "the number of workers is", workers as u64);
 }
 
-/// One worker, two and eight over shards under locks leave nothing to lift.
-pub(crate) fn all_end_well_over_shards<R: Host>(rt: &R, game: &Arc<Game, Global>) {
-    holds!(rt; ends_well::<Brand, R>(rt, game, 1), "one worker over shards");
-    holds!(rt; ends_well::<Brand, R>(rt, game, 2), "two workers over shards");
-    holds!(rt; ends_well::<Brand, R>(rt, game, 8), "eight workers over shards");
-}
-
-// Whether workers over words leave nothing to lift.
-fn ends_well_over_words(rt: &impl Host, game: &Arc<Game, Global>, workers: usize) -> bool
-    requires { 0 < workers }
-{
-    let board = board_of_words(rt, game, 1);
-    ends_well_on(rt, game, board, workers)
-}
-
-/// One worker, two and eight over words leave nothing to lift.
-pub(crate) fn all_end_well_over_words(rt: &impl Host, game: &Arc<Game, Global>) {
-    holds!(rt; ends_well_over_words(rt, game, 1), "one worker over words");
-    holds!(rt; ends_well_over_words(rt, game, 2), "two workers over words");
-    holds!(rt; ends_well_over_words(rt, game, 8), "eight workers over words");
+/// One worker, two and eight leave nothing to lift.
+pub(crate) fn all_end_well<R: Host>(rt: &R, game: &Arc<Game>, shards: u32) {
+    end_well::<Brand, R>(rt, game, shards, 1);
+    end_well::<Brand, R>(rt, game, shards, 2);
+    end_well::<Brand, R>(rt, game, shards, 8);
 }
 
 /// Whether the table that workers begin with leaves something to lift.
@@ -280,11 +198,41 @@ pub(crate) fn is_left(rt: &impl Host, game: &Game) -> bool {
     !is_settled(game, &first)
 }
 
+// Two rings of priority 1, and a way of six vertices of priority 3 to a loop of priority 4. Odd may go over from the first ring to
+// the second, but not back. Even wins all: she leaves the rings where she may, at 0 and at 8, and then there is only the way to
+// the loop. Yet she asks for less by staying until what the rings ask for has climbed past six threes: for each of them through
+// the counts of sixteen ones.
+const TWO_RINGS: &str =
+    "parity 22;\n0 1 0 1,16;\n1 1 1 2;\n2 1 0 3;\n3 1 1 4,11;\n4 1 0 5;\n5 1 1 6;\n6 1 0 7;\n7 1 1 0;\n8 1 0 9,16;\n9 1 1 10;\n10 1 0 11;\n11 1 1 12;\n12 1 0 13;\n13 1 1 14;\n14 1 0 15;\n15 1 1 8;\n16 3 0 17;\n17 3 1 18;\n18 3 0 19;\n19 3 1 20;\n20 3 0 21;\n21 3 1 22;\n22 4 0 22;\n";
+
 // Settled is what no lift raises, which is looked up at each vertex. The opening table isn't settled, so it is the workers' doing.
 #[test]
 fn workers_leave_nothing_to_lift(rt: HostRuntime) {
-    let game = shared_game(&rt, &TWO_RINGS);
+    let game = shared_game(&rt, TWO_RINGS);
     holds!(&rt; is_left(&rt, &game));
-    all_end_well_over_shards(&rt, &game);
-    all_end_well_over_words(&rt, &game);
+    all_end_well(&rt, &game, 16);
+    all_end_well(&rt, &game, WORDS);
+}
+
+// Even vertices are one worker's own, of which the first reads the second vertex. That rises once, at its turn, the first one of another worker, whose
+// next turn is at the fourth.
+const LATE: &str = "parity 5;\n0 0 0 1;\n1 1 0 3;\n2 0 0 2;\n3 0 0 5;\n4 0 0 4;\n5 0 0 5;\n";
+
+const READER: u32 = 0;
+
+const READ: u32 = 1;
+
+const AFTER: u32 = 3;
+
+// What rises after it was read, and before the turn of its reader is over, gives the reader one more turn. Were its mark taken away after the reads, who
+// raises would find it, and give no job. The reader's turn lasts until what it read has risen, and who raised it has given jobs.
+#[test]
+fn what_rises_after_it_was_read_gives_its_reader_once_more(rt: HostRuntime) {
+    let game = shared_game(&rt, LATE);
+    let notes = Notes::new(&rt, game.vertices(), 2, true);
+    let board = board_of_words(&rt, &game, 1);
+    holds!(&rt; find_the_least(&rt, &game, board, 2, &notes));
+    holds!(&rt; notes.turns.of(AFTER) > 0);
+    holds!(&rt; notes.turns.of(READER) == 2);
+    holds!(&rt; notes.ended());
 }

@@ -1,17 +1,8 @@
 // What observers are told. The numbers of vertices are counted by hand; turns are told of at each 4,096th of a worker, and each vertex has one at least.
 
-use crate::common::holds_of;
+use crate::common::*;
 use game::gauge::Gauge;
-use game::graph::Game;
 use game::observer::{Observer, Stage};
-use samples::games::shared_arena_of;
-use samples::holds;
-use samples::host::Host;
-use samples::texts::ring;
-use std::alloc::Global;
-use std::sync::Arc;
-use std::sync::atomic::{AtomicU64, Ordering};
-use workers::gate::NoGate;
 use workers::team::{BoardKind, Team, solve_by};
 
 /// Keeps how often lifting was told, and the last numbers.
@@ -24,13 +15,10 @@ struct LiftingCounts {
 
 impl Observer for LiftingCounts {
     fn sees(&self, stage: Stage) {
-        match stage {
-            Stage::Lifting { vertices, lifts } => {
-                self.vertices.store(u64::from(vertices), Ordering::SeqCst);
-                self.tellings.fetch_add(1, Ordering::SeqCst);
-                self.lifts.fetch_max(lifts, Ordering::SeqCst);
-            }
-            _ => {}
+        if let Stage::Lifting { vertices, lifts } = stage {
+            self.vertices.store(u64::from(vertices), Ordering::SeqCst);
+            self.tellings.fetch_add(1, Ordering::SeqCst);
+            self.lifts.fetch_max(lifts, Ordering::SeqCst);
         }
     }
 
@@ -39,14 +27,8 @@ impl Observer for LiftingCounts {
     }
 }
 
-/// The game of a formula with seven nodes at a ring of 2,500 states: 17,502 vertices.
-fn game_of_the_ring(rt: &impl Host) -> Arc<Game, Global> {
-    let system = ring(rt.alloc(), 2500).expect(rt, "memory");
-    shared_arena_of(rt, system.as_str(), "nu X. mu Y. (<a>X || <b>Y)").expect(rt, "a game")
-}
-
 /// Each vertex is a job of some worker once at least, so of 17,502 lifts by two workers one at least tells of 4,096.
-fn tells_of_workers(rt: &impl Host, game: &Arc<Game, Global>, board: BoardKind) {
+fn tells_of_workers(rt: &impl Host, game: &Arc<Game>, board: BoardKind) {
     let counts = LiftingCounts {
         vertices: AtomicU64::new(0),
         tellings: AtomicU64::new(0),
@@ -65,9 +47,10 @@ fn tells_of_workers(rt: &impl Host, game: &Arc<Game, Global>, board: BoardKind) 
     holds!(rt; counts.tellings.load(Ordering::SeqCst) == 1 + lifts / 4096);
 }
 
+// The formula has seven nodes, so its game has 17,502 vertices.
 #[test]
 fn workers_tell_of_lifts(rt: HostRuntime) {
-    let game = game_of_the_ring(&rt);
+    let game = long_arena(&rt, OFTEN);
     tells_of_workers(&rt, &game, BoardKind::Locked);
     tells_of_workers(&rt, &game, BoardKind::Packed)
 }

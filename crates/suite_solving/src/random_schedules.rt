@@ -3,18 +3,10 @@
 
 ghost use Rattle.std.specs.Prelude.{◌≡◌, ◌<◌};
 
-use crate::common::{STEP, TWO_STEPS, game_by_hand, holds_of, rolled_game, solved};
+use crate::common::*;
 use crate::schedules::new_core;
-use game::graph::Game;
 use liftcore::event::{Event, Outcome};
 use liftcore::machine::Core;
-use measures::measure::Measure;
-use measures::table::Settled;
-use samples::dice::Dice;
-use samples::holds;
-use samples::host::Host;
-use std::alloc::{AllocError, Global};
-use std::process::Abort;
 
 const WORKERS: usize = 3;
 
@@ -49,17 +41,9 @@ impl RunOutcomes {
 
     /// Whether no vertex is pending, and no worker holds one or owes any.
     fn is_quiet(&self) -> bool {
-        for vertex in &self.held {
-            if vertex.is_some() {
-                return false;
-            }
-        }
-        for count in &self.owed {
-            if *count > 0 {
-                return false;
-            }
-        }
         !self.pending.contains(&true)
+            && self.held.iter().all(|vertex| vertex.is_none())
+            && self.owed.iter().all(|count| *count == 0)
     }
 
     /// Notes an event that was done; a raise has left its worker owing so many.
@@ -203,7 +187,7 @@ fn replay_often(rt: &impl Host, dice: &mut Dice, game: &Game) {
 fn random_events_agree_with_their_outcomes(rt: HostRuntime) {
     let mut dice = Dice::new(6);
     let rolled = rolled_game(&rt, &mut dice, 12);
-    replay_often(&rt, &mut dice, &game_by_hand(&rt, &STEP));
-    replay_often(&rt, &mut dice, &game_by_hand(&rt, &TWO_STEPS));
+    replay_often(&rt, &mut dice, &game_of(&rt, STEP.as_bytes()));
+    replay_often(&rt, &mut dice, &game_of(&rt, TWO_STEPS.as_bytes()));
     replay_often(&rt, &mut dice, &rolled);
 }

@@ -3,15 +3,12 @@
 
 ghost use Rattle.std.specs.Prelude.{◌+◌, ◌<◌, ◌^◌};
 
-use crate::common::{STEP, game_by_hand};
-use game::graph::Game;
+use crate::common::*;
 use liftcore::error::{ReadError, ScheduleError, ScheduleFault};
 use liftcore::event::{Event, EventCounts};
 use liftcore::machine::{Core, run};
 use liftcore::schedule::{read_schedule, read_schedule_from};
 use liftcore::writer::write_replay;
-use samples::holds;
-use samples::host::Host;
 use samples::readers::{Halting, SlowReader};
 use std::io::Read;
 use text::ReadFault;
@@ -56,7 +53,7 @@ fn is_replayed(rt: &impl Host, core: &mut Core<'_>, events: &[Event]) {
 
 #[test]
 fn one_step_is_replayed(rt: HostRuntime) {
-    let game = game_by_hand(&rt, &STEP);
+    let game = game_of(&rt, STEP.as_bytes());
     let read = read_schedule(rt.alloc(), SCHEDULE.as_bytes(), 2, game.vertices());
     let events = read.expect(&rt, "a schedule");
     holds!(&rt; events.as_slice() == EVENTS.as_slice());
@@ -106,7 +103,7 @@ fn failed_reads_of_schedules_are_told(rt: HostRuntime) {
 
 #[test]
 fn a_run_is_its_events(rt: HostRuntime) {
-    let game = game_by_hand(&rt, &STEP);
+    let game = game_of(&rt, STEP.as_bytes());
     let run = run(rt.alloc(), &game, 1, &EVENTS);
     let is_so = match &run {
         Ok(core) => core.is_settled() && !core.is_quiet() && !core.is_pending(4),

@@ -3,31 +3,23 @@
 
 ghost use Rattle.std.specs.Prelude.{◌≡◌, ◌<◌, length};
 
-use crate::common::{TWO_STEPS, game_by_hand, opened, settled};
+use crate::common::*;
 use evidence::evidence::Evidence;
 use evidence::reader::read_evidence;
 use evidence::verdict::{Both, Verdict};
 use evidence::verify::{check_both, verify};
 use evidence::writer::write_evidence;
 use game::dual::{dual, greatest_priority};
-use game::graph::Game;
-use game::name::GameName;
 use lts::read_aut;
 use lts::writer::write_aut;
-use measures::settle::{is_settled, settle};
-use measures::table::PlainTable;
-use pgsolver::{read_game, write_game};
-use samples::games::shared_arena_of;
-use samples::holds;
-use samples::host::Host;
+use pgsolver::write_game;
 use samples::readers::SlowReader;
-use samples::texts::{RING, repeated_text, ring, system_read, unseeded};
-use std::marker::Brand;
+use samples::texts::{repeated_text, system_read, unseeded};
 use tables::shard::Shard;
 
 // A table of a game, which is settled or left as it is.
 fn of_table(rt: &impl Host, settles: bool) {
-    let game = game_by_hand(rt, &TWO_STEPS);
+    let game = game_of(rt, TWO_STEPS.as_bytes());
     let mut table = opened(rt, &game);
     if settles {
         settle(&game, &mut table);
@@ -64,7 +56,7 @@ fn of_shard<K: GameName>(rt: &impl Host, game: &Game, source: &PlainTable, raise
 
 // Of a game.
 fn of_settled(rt: &impl Host, raises: bool) {
-    let game = game_by_hand(rt, &TWO_STEPS);
+    let game = game_of(rt, TWO_STEPS.as_bytes());
     let source = settled(rt, &game);
     holds!(rt; 2 < game.vertices());
     of_shard::<Brand>(rt, &game, &source, raises)
@@ -87,10 +79,6 @@ const EVEN: &str = "evidence even\n0 1 (0)\n1 - (1)\n";
 
 const ODD: &str = "evidence odd\n";
 
-fn game_read(rt: &impl Host, text: &[u8]) -> Game {
-    read_game(rt.alloc(), text).expect(rt, "a game")
-}
-
 fn evidence_read(rt: &impl Host, game: &Game, text: &str) -> Evidence
     ensures { result.game ≡ game.now }
 {
@@ -99,7 +87,7 @@ fn evidence_read(rt: &impl Host, game: &Game, text: &str) -> Evidence
 
 // Evidence of both players, which is checked or left as it is.
 fn of_evidence(rt: &impl Host, checks: bool) {
-    let game = game_read(rt, GAME.as_bytes());
+    let game = game_of(rt, GAME.as_bytes());
     let even = evidence_read(rt, &game, EVEN);
     let odd = evidence_read(rt, &game, ODD);
     if checks {
@@ -121,7 +109,7 @@ fn evidence_is_made_and_checked(rt: HostRuntime) {
 // A system, a game and evidence, and room for their texts, which are written one behind another or not.
 fn of_texts(rt: &impl Host, writes: bool) {
     let system = system_read(rt.alloc(), RING).expect(rt, "a system");
-    let game = game_read(rt, GAME.as_bytes());
+    let game = game_of(rt, GAME.as_bytes());
     let even = evidence_read(rt, &game, EVEN);
     let mut out = Vec::with_capacity(rt.alloc(), 1_000).expect(rt, "memory");
     if writes {
@@ -143,20 +131,15 @@ fn texts_are_made_and_written(rt: HostRuntime) {
     of_texts(&rt, true)
 }
 
-/// So many blanks stand before a transition.
-const BLANKS: usize = 100_000;
-
-const LINE: &str = "(0,\"a\",1)\n";
-
-const HEADER: &str = "des (0,1,2)\n";
-
-/// More bytes than a text has here.
-const AT_ONCE: usize = 1_000_000;
+// A text with so many blanks before its transition.
+fn system_text(rt: &impl Host, blanks: usize) -> String {
+    let text = repeated_text(rt.alloc(), "des (0,1,2)\n", " ", blanks, "(0,\"a\",1)\n");
+    text.expect(rt, "memory")
+}
 
 // A text with many blanks and one without, of which one is read, some bytes at a time.
 fn of_system(rt: &impl Host, has_blanks: bool, step: usize) {
-    let blanks = repeated_text(rt.alloc(), HEADER, " ", BLANKS, LINE).expect(rt, "memory");
-    let none = repeated_text(rt.alloc(), HEADER, " ", 0, LINE).expect(rt, "memory");
+    let (blanks, none) = (system_text(rt, 100_000), system_text(rt, 0));
     let text = if has_blanks { &blanks } else { &none };
     let reader = SlowReader::whole(text.as_bytes(), step);
     let system = read_aut(rt.alloc(), unseeded(), reader).expect(rt, "a system");
@@ -165,7 +148,7 @@ fn of_system(rt: &impl Host, has_blanks: bool, step: usize) {
 
 #[test]
 fn a_system_is_read(rt: HostRuntime) {
-    of_system(&rt, false, AT_ONCE)
+    of_system(&rt, false, 1_000_000)
 }
 
 #[test]
@@ -175,7 +158,7 @@ fn a_system_is_read_and_comes_byte_by_byte(rt: HostRuntime) {
 
 #[test]
 fn a_system_is_read_and_has_many_blanks(rt: HostRuntime) {
-    of_system(&rt, true, AT_ONCE)
+    of_system(&rt, true, 1_000_000)
 }
 
 #[test]
@@ -185,13 +168,10 @@ fn a_system_is_read_and_has_many_blanks_in_pieces(rt: HostRuntime) {
 
 // The text of a game of 25,002 vertices, which is read; and its dual, or not.
 fn of_game(rt: &impl Host, has_dual: bool) {
-    let system = ring(rt.alloc(), 2500).expect(rt, "memory");
-    let arena = shared_arena_of(rt, system.as_str(), "[true*]<true*>(<a>true)").expect(
-        rt, "a game",
-    );
+    let arena = long_arena(rt, AHEAD);
     let mut text = Vec::new(rt.alloc());
     holds!(rt; write_game(&arena, &mut text).is_ok());
-    let game = game_read(rt, text.as_slice());
+    let game = game_of(rt, text.as_slice());
     holds!(rt; game.vertices() == 25_002);
     holds!(rt; greatest_priority(&game) <= 31);
     if has_dual {
