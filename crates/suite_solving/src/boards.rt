@@ -83,12 +83,6 @@ fn a_measure_has_a_rank(rt: HostRuntime) {
     holds!(&rt; of_rank(&game, 8).counts() == [2, 0].as_slice() && of_rank(&game, top).is_top());
 }
 
-fn new_seat(rt: &impl Abort, board: &PackedBoard) -> PackedSeat
-    ensures { IsSeatOf board.now result }
-{
-    board.new_seat().expect(rt, "a seat")
-}
-
 // A vertex rises by its first lift, and by no other.
 fn is_lifted_once(rt: &impl Abort, board: &PackedBoard, seat: &mut PackedSeat)
     requires seat { IsSeatOf board.now seat.old }
@@ -105,7 +99,7 @@ fn is_lifted_once(rt: &impl Abort, board: &PackedBoard, seat: &mut PackedSeat)
 fn a_vertex_is_lifted_once(rt: HostRuntime) {
     let game = step(&rt);
     let board = board_of_words(&rt, &game, 1);
-    let mut seat = new_seat(&rt, &board);
+    let mut seat = board.new_seat().expect(&rt, "a seat");
     is_lifted_once(&rt, &board, &mut seat);
     let table = board.close(rt.alloc(), seat).expect(&rt, "a table");
     holds!(&rt; table.value(4).is_top());

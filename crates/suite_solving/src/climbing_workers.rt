@@ -1,30 +1,9 @@
 // How workers share what is to be lifted, of which no contract speaks. That they leave the least table is proved; how many turns they
 // take, and who takes them, is counted here by a gate. The opening table is what they begin with, so that all lifting is theirs.
 
-ghost use Rattle.std.specs.Prelude.{◌≡◌, ◌<◌};
-ghost use Rattle.std.specs.Arc.{arc_value};
+ghost use Rattle.std.specs.Prelude.{◌<◌};
 
 use crate::common::*;
-
-/// The table that workers come to.
-pub(crate) fn lifted_to<G: Gate>(
-    rt: &impl Host,
-    game: &Arc<Game>,
-    shards: u32,
-    workers: usize,
-    gate: &G,
-) -> Settled
-    requires { 0 < workers }
-    ensures { result.game ≡ arc_value game.now }
-{
-    lifted(rt, game, shards, workers, gate).expect(rt, "memory")
-}
-
-/// The game of what was pushed, to be shared.
-pub(crate) fn built(rt: &impl Host, builder: GameBuilder) -> Arc<Game> {
-    let game = builder.finish().expect(rt, "a game");
-    shared_of(rt, game)
-}
 
 /// How many vertices a ring of the climb has, and the way behind the rings.
 const EACH: u32 = 20;
@@ -57,20 +36,12 @@ fn push_climbing(builder: &mut GameBuilder, v: u32) -> Result<(), AllocError> {
     }
 }
 
-fn climb(rt: &impl Host) -> Arc<Game> {
-    let mut builder = GameBuilder::new(rt.alloc());
-    for v in 0..END + 1 {
-        holds!(rt; push_climbing(&mut builder, v).is_ok());
-    }
-    built(rt, builder)
-}
-
 // How many turns so many workers over words take.
 fn turns_of(rt: &impl Host, game: &Arc<Game>, workers: usize) -> u64
     requires { 0 < workers }
 {
     let turns = Counts::new(rt, 64);
-    lifted_to(rt, game, WORDS, workers, &turns);
+    holds!(rt; lifted(rt, game, WORDS, workers, &turns).is_ok());
     turns.all()
 }
 
@@ -84,7 +55,7 @@ fn take_at_most_twice(rt: &impl Host, game: &Arc<Game>, workers: usize, one: u64
 
 #[test]
 fn a_climb_takes_many_workers_at_most_twice_the_lifts_of_one(rt: HostRuntime) {
-    let game = climb(&rt);
+    let game = grown(&rt, END + 1, &push_climbing);
     let one = turns_of(&rt, &game, 1);
     holds_of(&rt, one > 100_000, "the turns of one are", one);
     take_at_most_twice(&rt, &game, 2, one);
@@ -104,20 +75,12 @@ fn push_branch(builder: &mut GameBuilder, v: u32) -> Result<(), AllocError> {
     }
 }
 
-fn tree(rt: &impl Host) -> Arc<Game> {
-    let mut builder = GameBuilder::new(rt.alloc());
-    for v in 0..100_000 {
-        holds!(rt; push_branch(&mut builder, v).is_ok());
-    }
-    built(rt, builder)
-}
-
 // So many workers share the turns at it: each takes at least a tenth of them.
 fn share(rt: &impl Host, game: &Arc<Game>, workers: u32)
     requires { 0 < workers }
 {
     let turns = Counts::new(rt, 64);
-    lifted_to(rt, game, WORDS, workers as usize, &turns);
+    holds!(rt; lifted(rt, game, WORDS, workers as usize, &turns).is_ok());
     let all = turns.all();
     holds_of(rt, all >= 100_000 && all < 220_000, "all turns are", all);
     for worker in 0..workers {
@@ -130,7 +93,7 @@ fn share(rt: &impl Host, game: &Arc<Game>, workers: u32)
 // while somebody goes through it, two may come to a vertex at the same time. So a quarter of the vertices is more than a tenth of all turns.
 #[test]
 fn what_rises_once_is_shared(rt: HostRuntime) {
-    let game = tree(&rt);
+    let game = grown(&rt, ROOT + 1, &push_branch);
     share(&rt, &game, 2);
     share(&rt, &game, 4);
 }
@@ -141,7 +104,7 @@ fn is_same_table(rt: &impl Host, dice: &mut Dice) -> bool {
     let workers = dice.roll(16) as usize + 1;
     let shards = dice.roll(20) + 1;
     let shards = if dice.roll(2) == 0 { WORDS } else { shards };
-    let many = lifted_to(rt, &game, shards, workers, &NoGate);
+    let many = lifted(rt, &game, shards, workers, &NoGate).expect(rt, "memory");
     is_least(rt, &game, &many)
 }
 

@@ -129,6 +129,22 @@ pub(crate) fn shared_game(rt: &impl Host, text: &str) -> Arc<Game> {
     shared_of(rt, game)
 }
 
+/// The game of so many vertices that are pushed one by one, to be shared.
+pub(crate) fn grown<Push: Fn(&mut GameBuilder, u32) -> Result<(), AllocError>>(
+    rt: &impl Host,
+    vertices: u32,
+    push: &Push,
+) -> Arc<Game>
+    requires { Push.IsAlwaysCallable push.now }
+{
+    let mut builder = GameBuilder::new(rt.alloc());
+    for v in 0..vertices {
+        holds!(rt; push(&mut builder, v).is_ok());
+    }
+    let game = builder.finish().expect(rt, "a game");
+    shared_of(rt, game)
+}
+
 /// The game of a system and a formula.
 pub(crate) fn arena(rt: &impl Host, system: &str, formula: &str) -> Arc<Game> {
     shared_arena_of(rt, system, formula).expect(rt, "memory")

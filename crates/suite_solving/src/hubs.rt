@@ -1,7 +1,6 @@
 // A vertex to which very many others lead, and which rises again and again: what it gives workers to lift is bounded by how many vertices
 // there are. tests/hub tells what memory that takes.
 
-use crate::climbing_workers::{built, lifted_to};
 use crate::common::*;
 use samples::meeting::has_come;
 
@@ -32,14 +31,6 @@ fn push(builder: &mut GameBuilder, v: u32) -> Result<(), AllocError> {
     }
 }
 
-fn game(rt: &impl Host) -> Arc<Game> {
-    let mut builder = GameBuilder::new(rt.alloc());
-    for v in 0..HUB + 1 {
-        holds!(rt; push(&mut builder, v).is_ok());
-    }
-    built(rt, builder)
-}
-
 /// Counts turns, and holds the first of two workers until the hub has had all of its turns.
 #[derive(Drop)]
 struct Holding {
@@ -64,12 +55,12 @@ impl Gate for Holding {
 // too, since it stands in the hub's block; and all had one at each of the others.
 #[test]
 fn what_is_pending_is_given_once_however_often_its_hub_rises(rt: HostRuntime) {
-    let game = game(&rt);
+    let game = grown(&rt, HUB + 1, &push);
     let gate = Holding {
         turns: Counts::new(&rt, 64),
         of_hub: AtomicU64::new(0),
     };
-    lifted_to(&rt, &game, WORDS, 2, &gate);
+    holds!(&rt; lifted(&rt, &game, WORDS, 2, &gate).is_ok());
     holds!(&rt; gate.of_hub.load(Ordering::SeqCst) == HUB_TURNS);
     holds!(&rt; gate.turns.of(0) == u64::from(LEADING + BETWEEN / 2 + 1));
     holds!(&rt; gate.turns.all() == u64::from(HUB) + HUB_TURNS + 1);

@@ -31,10 +31,6 @@ impl RunOutcomes {
         })
     }
 
-    fn is_pending(&self, v: u32) -> bool {
-        self.pending.get(v as usize) == Some(&true)
-    }
-
     fn holds(&self, worker: usize) -> Option<u32> {
         *self.held.get(worker)?
     }
@@ -127,7 +123,7 @@ fn roll_event(dice: &mut Dice, vertices: u32) -> Event
 
 fn agree(core: &Core<'_>, told: &RunOutcomes) -> bool {
     for v in 0..core.vertices() {
-        if core.is_pending(v) != told.is_pending(v) {
+        if core.is_pending(v) != (told.pending.get(v as usize) == Some(&true)) {
             return false;
         }
     }
